@@ -1,11 +1,12 @@
 # `make help` says what each target does.
 PREFIX ?= /usr/local
+MINUTES ?= 10
 PROGRAM := crates/cdrc_words/out/cdrc_words
 SOURCES := crates.txt $(shell find crates -name out -prune -o \( -name '*.rt' -o -name '*.antt' \) -print)
 UNPROVED := nothing is proved here: make test proves everything
 TRY := cd crates/cdrc_words && echo '$(UNPROVED)' >&2 && rt try --
 
-.PHONY: help run script steps examples picture docs test allocations limits install clean
+.PHONY: help run script steps examples picture docs test cases soak allocations limits install clean
 
 help: ## says what each target does
 	@sed -n 's/^\([a-z]*\):.*## /make \1\t/p' Makefile | expand -t 16
@@ -28,9 +29,18 @@ picture: ## draws docs/late_finish.svg anew out of docs/late_finish.steps
 docs: ## checks the documents' links, names of proved functions, and printed outputs: a minute, no proof
 	python3 tools/check_docs.py
 
-test: ## make docs, and then the merge gate, rt ci: every proof, must-fail edit, program and test
+test: ## make docs, then rt ci: every proof, must-fail edit, program and test; then every case of the program
 	python3 tools/check_docs.py
 	rt ci
+	tools/run_cases.py $(PROGRAM)
+	tools/test_run_cases.py $(PROGRAM)
+
+cases: $(PROGRAM) ## runs the program on each case of the folder cases, and shows that a wrong case is found
+	tools/run_cases.py $(PROGRAM)
+	tools/test_run_cases.py $(PROGRAM)
+
+soak: $(PROGRAM) ## runs the program on drawn inputs for MINUTES, and compares it with a model in Python
+	tools/soak.py $(PROGRAM) --minutes $(MINUTES)
 
 allocations: $(PROGRAM) ## refuses each allocation of three runs of the program in turn: status 9, or the same end
 	tools/fail_allocations.py $(PROGRAM) words crates/cdrc_words/data/sample.txt crates/cdrc_words/data/second.txt

@@ -9,7 +9,7 @@
   try`, which proves nothing. A path is one of crates/cdrc_words or of the top folder.
 - A block after a comment <!-- taken: CRATE --> is what that program writes in a repository of its own, which has only
   what tools/take.py copies.
-- docs/late_finish.svg is what tools/picture.py draws.
+- docs/late_finish.svg is what tools/picture.py draws, and the block after <!-- layers --> what tools/layers.py draws.
 - Each crate of crates.txt has a README, to which docs/CRATES.md links.
 - No mark of a merge is left.
 """
@@ -22,12 +22,13 @@ from concurrent.futures import ThreadPoolExecutor
 from pathlib import Path
 
 sys.dont_write_bytecode = True
+import layers  # noqa: E402
 import picture  # noqa: E402
 import take  # noqa: E402
 
 TOP = Path(__file__).resolve().parent.parent
 LINK = re.compile(r"!?\[((?:`[^`]*`|[^\]`])*)\]\(([^)\s]+)\)")
-MARK = re.compile(r"^<!-- (file|part|output|taken): (.+) -->$")
+MARK = re.compile(r"^<!-- (file|part|output|taken|layers)(?:: (.+))? -->$")
 
 
 class Document:
@@ -156,6 +157,9 @@ def main():
                 shown.append((document, number, name, text))
             elif kind == "taken":
                 elsewhere.append((document, number, name, text))
+            elif kind == "layers":
+                if text != layers.draw((TOP / "crates.txt").read_text()):
+                    document.fault(number, "tools/layers.py draws other layers")
             elif kind == "part":
                 if not (TOP / name).is_file() or "\n" + text not in "\n" + (TOP / name).read_text():
                     document.fault(number, f"the block isn't a part of the file {name}")

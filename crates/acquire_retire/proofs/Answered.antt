@@ -9,17 +9,17 @@ use Rattle.plain_state.specs.declared.slot.SlotId.{SlotId}
 use Rattle.plain_state.specs.Lists.{Entry}
 use Rattle.plain_state.specs.Places.{place_kind}
 use Rattle.plain_state.specs.Steps.{joined, word_of}
-use Rattle.core_events.specs.declared.act.Act.{Act}
-use Rattle.core_events.specs.declared.act.Act.TheVariants as act
-use Rattle.core_events.specs.declared.outcome.Outcome.{Outcome}
-use Rattle.core_events.specs.declared.outcome.Outcome.TheVariants as outcome
-use Rattle.core_events.specs.declared.shape.Shape.{Shape}
-use Rattle.core_events.specs.declared.view.CoreView.{CoreView}
-use Rattle.core_events.specs.declared.view.Phase.TheVariants as phase
-use Rattle.core_events.specs.Steps.{answer, changed, decremented, ended, exchanged, given_up, is_last, is_valid, moved, noted, paid, paid_outcome, scanned, validated, with_note, without_given}
-use Rattle.core_events.specs.Views.{about, note_of, slot_of, without}
-use Rattle.core_events.specs.Words.{bit_in, slot_in}
-use Rattle.counter_word.specs.Words.{ZERO, has_help, value}
+use Rattle.core_promises.specs.core_events.declared.act.Act.{Act}
+use Rattle.core_promises.specs.core_events.declared.act.Act.TheVariants as act
+use Rattle.core_promises.specs.core_events.declared.outcome.Outcome.{Outcome}
+use Rattle.core_promises.specs.core_events.declared.outcome.Outcome.TheVariants as outcome
+use Rattle.core_promises.specs.core_events.declared.shape.Shape.{Shape}
+use Rattle.core_promises.specs.core_events.declared.view.CoreView.{CoreView}
+use Rattle.core_promises.specs.core_events.declared.view.Phase.TheVariants as phase
+use Rattle.core_promises.specs.core_events.Steps.{answer, changed, decremented, ended, exchanged, given_up, is_last, is_valid, moved, noted, paid, paid_outcome, scanned, validated, with_note, without_given}
+use Rattle.core_promises.specs.core_events.Views.{about, note_of, slot_of, without}
+use Rattle.core_promises.specs.core_events.Words.{bit_in, slot_in}
+use Rattle.plain_state.specs.counter_word.Words.{ZERO, has_help, value}
 
 -- two tests with one answer, where the answers of a test differ
 one_test : (b c : Bool) (x x' y y' : Outcome) → x ≢ y' → x' ≢ y

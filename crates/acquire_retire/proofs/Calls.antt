@@ -13,21 +13,21 @@ use Rattle.plain_state.specs.Lists.{Entry}
 use Rattle.plain_state.specs.Places.{place_kind}
 use Rattle.plain_state.specs.State.{Plain}
 use Rattle.plain_state.specs.Steps.{joined, word_of}
-use Rattle.plain_protocol.specs.Acts.{IsCalm}
-use Rattle.plain_protocol.specs.Owns.{OwnPart}
-use Rattle.core_events.specs.declared.act.Act.{Act}
-use Rattle.core_events.specs.declared.act.Act.TheVariants as act
-use Rattle.core_events.specs.declared.outcome.Outcome.{Outcome}
-use Rattle.core_events.specs.declared.outcome.Outcome.TheVariants as outcome
-use Rattle.core_events.specs.declared.shape.Shape.{Shape}
-use Rattle.core_events.specs.declared.view.CoreView.{CoreView}
-use Rattle.core_events.specs.declared.view.Note.{Note}
-use Rattle.core_events.specs.declared.view.Note.TheVariants as note
-use Rattle.core_events.specs.ShownSteps.{ejects, on_slot, releases, shown_act}
-use Rattle.core_events.specs.Steps.{May, answer, exchanged, is_last, moved, noted}
-use Rattle.core_events.specs.Views.{note_of, room_of, slot_of}
-use Rattle.core_events.specs.Words.{bit_in, slot_in}
-use Rattle.counter_word.specs.Words.{has_help}
+use Rattle.domain_rule.specs.plain_protocol.Acts.{IsCalm}
+use Rattle.domain_rule.specs.plain_protocol.Owns.{OwnPart}
+use Rattle.core_promises.specs.core_events.declared.act.Act.{Act}
+use Rattle.core_promises.specs.core_events.declared.act.Act.TheVariants as act
+use Rattle.core_promises.specs.core_events.declared.outcome.Outcome.{Outcome}
+use Rattle.core_promises.specs.core_events.declared.outcome.Outcome.TheVariants as outcome
+use Rattle.core_promises.specs.core_events.declared.shape.Shape.{Shape}
+use Rattle.core_promises.specs.core_events.declared.view.CoreView.{CoreView}
+use Rattle.core_promises.specs.core_events.declared.view.Note.{Note}
+use Rattle.core_promises.specs.core_events.declared.view.Note.TheVariants as note
+use Rattle.core_promises.specs.core_events.ShownSteps.{ejects, on_slot, releases, shown_act}
+use Rattle.core_promises.specs.core_events.Steps.{May, answer, exchanged, is_last, moved, noted}
+use Rattle.core_promises.specs.core_events.Views.{note_of, room_of, slot_of}
+use Rattle.core_promises.specs.core_events.Words.{bit_in, slot_in}
+use Rattle.plain_state.specs.counter_word.Words.{has_help}
 use Rattle.domain_rule.specs.declared.view.SeatView.{SeatView}
 use Rattle.domain_rule.specs.Told.{FitsStart, IsOwn}
 use Rattle.acquire_retire.specs.Calls.{CanStep, IsOf, IsReady, Stepped, Steps}

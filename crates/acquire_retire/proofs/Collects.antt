@@ -4,17 +4,17 @@ use Rattle.std.specs.Prelude.{Option, ◌==◌, if◌then◌else◌}
 use Rattle.plain_state.specs.declared.slot.Kind.TheVariants.{Strong, Weak, Disposal}
 use Rattle.plain_state.specs.declared.slot.SlotId.{SlotId}
 use Rattle.plain_state.specs.Lists.{Entry}
-use Rattle.core_events.specs.declared.act.Act.{Act}
-use Rattle.core_events.specs.declared.act.Act.TheVariants as act
-use Rattle.core_events.specs.declared.outcome.Outcome.{Outcome}
-use Rattle.core_events.specs.declared.shape.Shape.{Shape}
-use Rattle.core_events.specs.declared.view.CoreView.{CoreView}
-use Rattle.core_events.specs.declared.view.Move.{Move}
-use Rattle.core_events.specs.declared.view.Phase.{Phase}
-use Rattle.core_events.specs.declared.view.Phase.TheVariants as phase
-use Rattle.core_events.specs.Steps.{IsIdle, changed, ended, is_last, paid}
-use Rattle.core_events.specs.Views.{slot_of}
-use Rattle.counter_word.specs.Words.{has_help}
+use Rattle.core_promises.specs.core_events.declared.act.Act.{Act}
+use Rattle.core_promises.specs.core_events.declared.act.Act.TheVariants as act
+use Rattle.core_promises.specs.core_events.declared.outcome.Outcome.{Outcome}
+use Rattle.core_promises.specs.core_events.declared.shape.Shape.{Shape}
+use Rattle.core_promises.specs.core_events.declared.view.CoreView.{CoreView}
+use Rattle.core_promises.specs.core_events.declared.view.Move.{Move}
+use Rattle.core_promises.specs.core_events.declared.view.Phase.{Phase}
+use Rattle.core_promises.specs.core_events.declared.view.Phase.TheVariants as phase
+use Rattle.core_promises.specs.core_events.Steps.{IsIdle, changed, ended, is_last, paid}
+use Rattle.core_promises.specs.core_events.Views.{slot_of}
+use Rattle.plain_state.specs.counter_word.Words.{has_help}
 use Rattle.acquire_retire.specs.Calls.{IsOf, IsSameView, Steps, same_view}
 use Rattle.acquire_retire.specs.Collecting.{Goes, Walks, move, rest_of}
 use Rattle.acquire_retire.specs.Domains.{DomainState}

@@ -6,18 +6,18 @@ use Rattle.plain_state.specs.declared.act.EventPlace.{EventPlace}
 use Rattle.plain_state.specs.declared.act.PlainAct.{PlainAct}
 use Rattle.plain_state.specs.declared.slot.SlotId.{SlotId}
 use Rattle.plain_state.specs.State.{Plain}
-use Rattle.plain_protocol.specs.Owns.{OwnPart}
-use Rattle.core_events.specs.declared.act.Act.{Act}
-use Rattle.core_events.specs.declared.act.Act.TheVariants as act
-use Rattle.core_events.specs.declared.shape.Shape.{Shape}
-use Rattle.core_events.specs.declared.view.CoreView.{CoreView}
-use Rattle.core_events.specs.Good.{SeatLaw}
-use Rattle.core_events.specs.Runs.{AreTerms, IsShape, view_at}
-use Rattle.core_events.specs.Steps.{May, place}
-use Rattle.core_events.specs.Words.{place_at}
-use Rattle.core_law.proofs.Always.{history_sound}
-use Rattle.core_law.proofs.InRange.{content_in, open_in_range, put_in_range, readable_in_range}
-use Rattle.core_law.proofs.Writes.{IsPlace}
+use Rattle.domain_rule.specs.plain_protocol.Owns.{OwnPart}
+use Rattle.core_promises.specs.core_events.declared.act.Act.{Act}
+use Rattle.core_promises.specs.core_events.declared.act.Act.TheVariants as act
+use Rattle.core_promises.specs.core_events.declared.shape.Shape.{Shape}
+use Rattle.core_promises.specs.core_events.declared.view.CoreView.{CoreView}
+use Rattle.core_promises.specs.core_events.Good.{SeatLaw}
+use Rattle.core_promises.specs.core_events.Runs.{AreTerms, IsShape, view_at}
+use Rattle.core_promises.specs.core_events.Steps.{May, place}
+use Rattle.core_promises.specs.core_events.Words.{place_at}
+use Rattle.core_promises.proofs.Below.core_law.Always.{history_sound}
+use Rattle.core_promises.proofs.Below.core_law.InRange.{content_in, open_in_range, put_in_range, readable_in_range}
+use Rattle.core_promises.proofs.Below.core_law.Writes.{IsPlace}
 use Rattle.domain_rule.specs.declared.view.SeatView.{SeatView}
 use Rattle.acquire_retire.specs.Calls.{Stepped}
 use Rattle.acquire_retire.specs.Domains.{DomainState, IsDomain, StoredDomain}

@@ -4,12 +4,12 @@ use Rattle.std.specs.Prelude.{slice_index_or}
 use Rattle.atomic_table.specs.declared.shared.Seat.{Seat as TableSeat}
 use Rattle.plain_state.specs.declared.act.PlainAct.{PlainAct}
 use Rattle.plain_state.specs.State.{Plain}
-use Rattle.plain_protocol.specs.Owns.{OwnPart}
-use Rattle.core_events.specs.declared.act.Act.TheVariants as act
-use Rattle.core_events.specs.declared.view.CoreView.{CoreView}
-use Rattle.core_events.specs.Views.{granted}
-use Rattle.core_law.proofs.Always.{history_sound}
-use Rattle.core_law.proofs.Grants.{history_grants}
+use Rattle.domain_rule.specs.plain_protocol.Owns.{OwnPart}
+use Rattle.core_promises.specs.core_events.declared.act.Act.TheVariants as act
+use Rattle.core_promises.specs.core_events.declared.view.CoreView.{CoreView}
+use Rattle.core_promises.specs.core_events.Views.{granted}
+use Rattle.core_promises.proofs.Below.core_law.Always.{history_sound}
+use Rattle.core_promises.proofs.Below.core_law.Grants.{history_grants}
 use Rattle.domain_rule.specs.declared.view.SeatView.{SeatView}
 use Rattle.acquire_retire.specs.Calls.{Stepped}
 use Rattle.acquire_retire.specs.Domains.{DomainState, IsDomain, StoredDomain}

@@ -8,22 +8,22 @@ use Rattle.plain_state.specs.declared.slot.Kind.TheVariants.{Weak}
 use Rattle.plain_state.specs.declared.slot.SlotId.{SlotId}
 use Rattle.plain_state.specs.Lists.{times}
 use Rattle.plain_state.specs.State.{Plain}
-use Rattle.plain_protocol.specs.Owns.{OwnPart}
-use Rattle.core_events.specs.declared.act.Act.{Act}
-use Rattle.core_events.specs.declared.act.Act.TheVariants as act
-use Rattle.core_events.specs.declared.shape.Shape.{Shape}
-use Rattle.core_events.specs.Views.{Terms, alone, without}
-use Rattle.core_events.specs.declared.view.Phase.TheVariants as phase
-use Rattle.core_events.specs.declared.view.CoreView.{CoreView}
-use Rattle.core_events.specs.Counts.{one, sum_below}
-use Rattle.core_events.specs.Good.{SeatLaw}
-use Rattle.core_events.specs.Runs.{AreTerms, Core, IsShape, after, view_at}
-use Rattle.core_events.specs.Steps.{ended, moved}
-use Rattle.core_functions.specs.Phases.{phase_after}
-use Rattle.core_law.specs.Sound.{Sound}
-use Rattle.core_law.proofs.Always.{history_sound, step_keeps}
-use Rattle.core_law.proofs.Kit.{below_but, below_none, below_same, one_other, one_same, times_cons, times_none, times_push, total_at}
-use Rattle.core_law.proofs.Parts.{sound_good}
+use Rattle.domain_rule.specs.plain_protocol.Owns.{OwnPart}
+use Rattle.core_promises.specs.core_events.declared.act.Act.{Act}
+use Rattle.core_promises.specs.core_events.declared.act.Act.TheVariants as act
+use Rattle.core_promises.specs.core_events.declared.shape.Shape.{Shape}
+use Rattle.core_promises.specs.core_events.Views.{Terms, alone, without}
+use Rattle.core_promises.specs.core_events.declared.view.Phase.TheVariants as phase
+use Rattle.core_promises.specs.core_events.declared.view.CoreView.{CoreView}
+use Rattle.core_promises.specs.core_events.Counts.{one, sum_below}
+use Rattle.core_promises.specs.core_events.Good.{SeatLaw}
+use Rattle.core_promises.specs.core_events.Runs.{AreTerms, Core, IsShape, after, view_at}
+use Rattle.core_promises.specs.core_events.Steps.{ended, moved}
+use Rattle.dying_slots.specs.core_functions.Phases.{phase_after}
+use Rattle.core_promises.specs.core_law.Sound.{Sound}
+use Rattle.core_promises.proofs.Below.core_law.Always.{history_sound, step_keeps}
+use Rattle.core_promises.proofs.Below.core_law.Kit.{below_but, below_none, below_same, one_other, one_same, times_cons, times_none, times_push, total_at}
+use Rattle.core_promises.proofs.Below.core_law.Parts.{sound_good}
 use Rattle.dying_slots.specs.Dying.{waiting_of}
 use Rattle.dying_slots.proofs.Waiting.{all_wait, destroyed_waiting, ends_waiting, few_waiting}
 use Rattle.domain_rule.specs.declared.view.SeatView.{SeatView}

@@ -2,7 +2,7 @@
 use Rattle.std.proofs.Common.{◌≡◌, ℕ, List, ◌++◌, length, ap, sym, subst, arith}
 use Rattle.std.specs.Prelude.{flat_map}
 use Rattle.std.proofs.lemmas.List.{nil_from_length}
-use Rattle.core_events.specs.Words.{announcements}
+use Rattle.core_promises.specs.core_events.Words.{announcements}
 use Rattle.acquire_retire.specs.Collecting.{Collects, Goes, PaysFor, Splits, paid_by, scanned_by}
 use Rattle.acquire_retire.specs.Domains.{DomainState}
 use Rattle.acquire_retire.specs.Seats.{SeatState}

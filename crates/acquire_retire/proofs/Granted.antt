@@ -6,16 +6,16 @@ use Rattle.atomic_table.specs.declared.shared.Seat.{Seat as TableSeat}
 use Rattle.plain_state.specs.declared.act.PlainAct.{PlainAct}
 use Rattle.plain_state.specs.declared.slot.SlotId.{SlotId}
 use Rattle.plain_state.specs.State.{Plain}
-use Rattle.plain_protocol.specs.Owns.{OwnPart}
-use Rattle.core_events.specs.declared.act.Act.TheVariants as act
-use Rattle.core_events.specs.declared.act.Event.{Event}
-use Rattle.core_events.specs.declared.shape.Shape.{Shape}
-use Rattle.core_events.specs.declared.view.CoreView.{CoreView}
-use Rattle.core_events.specs.Runs.{AreTerms, Core, History, IsShape, view_at}
-use Rattle.core_events.specs.Views.{Terms, allowed_makes, granted}
-use Rattle.core_law.proofs.Parts.{sound_good}
-use Rattle.core_law.proofs.Always.{history_sound}
-use Rattle.core_law.proofs.Grants.{history_grants}
+use Rattle.domain_rule.specs.plain_protocol.Owns.{OwnPart}
+use Rattle.core_promises.specs.core_events.declared.act.Act.TheVariants as act
+use Rattle.core_promises.specs.core_events.declared.act.Event.{Event}
+use Rattle.core_promises.specs.core_events.declared.shape.Shape.{Shape}
+use Rattle.core_promises.specs.core_events.declared.view.CoreView.{CoreView}
+use Rattle.core_promises.specs.core_events.Runs.{AreTerms, Core, History, IsShape, view_at}
+use Rattle.core_promises.specs.core_events.Views.{Terms, allowed_makes, granted}
+use Rattle.core_promises.proofs.Below.core_law.Parts.{sound_good}
+use Rattle.core_promises.proofs.Below.core_law.Always.{history_sound}
+use Rattle.core_promises.proofs.Below.core_law.Grants.{history_grants}
 use Rattle.core_promises.proofs.Granted.{seat_granted}
 use Rattle.domain_rule.specs.declared.view.SeatView.{SeatView}
 use Rattle.acquire_retire.specs.Calls.{Stepped}

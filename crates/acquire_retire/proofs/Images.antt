@@ -14,21 +14,21 @@ use Rattle.plain_state.specs.Images.{IsImage, free_image, image_at, image_of}
 use Rattle.plain_state.specs.References.{own_reference, strong_refs, weak_refs}
 use Rattle.plain_state.specs.State.{seat_at}
 use Rattle.plain_state.specs.Steps.{word_of}
-use Rattle.core_events.specs.declared.shape.Shape.{Shape}
-use Rattle.core_events.specs.declared.view.CoreView.{CoreView}
-use Rattle.core_events.specs.declared.view.Phase.TheVariants as phase
-use Rattle.core_events.specs.Counts.{barers, baring, strong, weak}
-use Rattle.core_events.specs.Good.{CountLaw}
-use Rattle.core_events.specs.Runs.{Core, view_at}
-use Rattle.core_events.specs.Shows.{show_slot, shows}
-use Rattle.core_events.specs.Words.{cell_at, each_from, field_at, payload_at, slot_at, slot_in, weak_cell_at, weak_field_at}
-use Rattle.counter_word.specs.Words.{ZERO, has_zero}
-use Rattle.core_law.specs.Sound.{Sound}
-use Rattle.core_law.proofs.Always.{history_sound}
-use Rattle.core_law.proofs.Parts.{sound_good}
-use Rattle.core_law.proofs.Bridge.{shown_slot, shown_strong, shown_weak, total_zero}
-use Rattle.core_law.proofs.Each.{get_each, length_each}
-use Rattle.core_law.proofs.Lists.{each_push, each_same}
+use Rattle.core_promises.specs.core_events.declared.shape.Shape.{Shape}
+use Rattle.core_promises.specs.core_events.declared.view.CoreView.{CoreView}
+use Rattle.core_promises.specs.core_events.declared.view.Phase.TheVariants as phase
+use Rattle.core_promises.specs.core_events.Counts.{barers, baring, strong, weak}
+use Rattle.core_promises.specs.core_events.Good.{CountLaw}
+use Rattle.core_promises.specs.core_events.Runs.{Core, view_at}
+use Rattle.core_promises.specs.core_events.Shows.{show_slot, shows}
+use Rattle.core_promises.specs.core_events.Words.{cell_at, each_from, field_at, payload_at, slot_at, slot_in, weak_cell_at, weak_field_at}
+use Rattle.plain_state.specs.counter_word.Words.{ZERO, has_zero}
+use Rattle.core_promises.specs.core_law.Sound.{Sound}
+use Rattle.core_promises.proofs.Below.core_law.Always.{history_sound}
+use Rattle.core_promises.proofs.Below.core_law.Parts.{sound_good}
+use Rattle.core_promises.proofs.Below.core_law.Bridge.{shown_slot, shown_strong, shown_weak, total_zero}
+use Rattle.core_promises.proofs.Below.core_law.Each.{get_each, length_each}
+use Rattle.core_promises.proofs.Below.core_law.Lists.{each_push, each_same}
 use Rattle.domain_rule.specs.declared.view.SeatView.{SeatView}
 use Rattle.domain_rule.specs.declared.view.Whole.{Whole}
 use Rattle.domain_rule.specs.Reading.{HasRead}

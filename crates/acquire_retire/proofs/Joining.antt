@@ -3,13 +3,13 @@ use Rattle.std.proofs.Common.{refl, Bool, true, false, ◌≡◌, ℕ, ◌<◌, 
 use Rattle.std.specs.Prelude.{slice_index_or}
 use Rattle.atomic_table.specs.declared.shared.Seat.{Seat as TableSeat}
 use Rattle.plain_state.specs.declared.slot.SlotId.{SlotId}
-use Rattle.plain_protocol.specs.Owns.{HasSlot, Object, has_slot}
-use Rattle.core_events.specs.declared.view.CoreView.{CoreView}
-use Rattle.core_events.specs.Shows.{show_seat}
-use Rattle.core_events.specs.Steps.{CanLeave}
+use Rattle.domain_rule.specs.plain_protocol.Owns.{HasSlot, Object, has_slot}
+use Rattle.core_promises.specs.core_events.declared.view.CoreView.{CoreView}
+use Rattle.core_promises.specs.core_events.Shows.{show_seat}
+use Rattle.core_promises.specs.core_events.Steps.{CanLeave}
 use Rattle.domain_rule.specs.declared.view.Known.{Known}
-use Rattle.core_law.specs.Sound.{Sound}
-use Rattle.core_law.proofs.Always.{history_sound}
+use Rattle.core_promises.specs.core_law.Sound.{Sound}
+use Rattle.core_promises.proofs.Below.core_law.Always.{history_sound}
 use Rattle.domain_rule.specs.declared.view.SeatView.{SeatView}
 use Rattle.domain_rule.specs.Opening.{joined_view, merged_object, merged_objects}
 use Rattle.domain_rule.specs.Reading.{FoundIn, HasRead}

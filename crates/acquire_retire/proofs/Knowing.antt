@@ -7,17 +7,17 @@ use Rattle.atomic_table.specs.declared.shared.Seat.{Seat as TableSeat}
 use Rattle.plain_state.specs.declared.slot.SlotId.{SlotId}
 use Rattle.plain_state.specs.Lists.{times}
 use Rattle.plain_state.specs.State.{Plain}
-use Rattle.core_events.specs.declared.shape.Shape.{Shape}
-use Rattle.core_events.specs.Views.{Terms}
-use Rattle.core_events.specs.declared.view.CoreView.{CoreView}
-use Rattle.core_events.specs.Counts.{total}
-use Rattle.core_events.specs.Good.{SeatLaw, staying_room}
-use Rattle.core_events.specs.Runs.{view_at}
-use Rattle.core_events.specs.Views.{no_view, room_of}
-use Rattle.core_events.specs.Words.{word_count}
-use Rattle.core_law.specs.Sound.{Sound}
-use Rattle.core_law.proofs.Always.{history_sound}
-use Rattle.core_law.proofs.Kit.{total_at}
+use Rattle.core_promises.specs.core_events.declared.shape.Shape.{Shape}
+use Rattle.core_promises.specs.core_events.Views.{Terms}
+use Rattle.core_promises.specs.core_events.declared.view.CoreView.{CoreView}
+use Rattle.core_promises.specs.core_events.Counts.{total}
+use Rattle.core_promises.specs.core_events.Good.{SeatLaw, staying_room}
+use Rattle.core_promises.specs.core_events.Runs.{view_at}
+use Rattle.core_promises.specs.core_events.Views.{no_view, room_of}
+use Rattle.core_promises.specs.core_events.Words.{word_count}
+use Rattle.core_promises.specs.core_law.Sound.{Sound}
+use Rattle.core_promises.proofs.Below.core_law.Always.{history_sound}
+use Rattle.core_promises.proofs.Below.core_law.Kit.{total_at}
 use Rattle.domain_rule.specs.declared.view.SeatView.{SeatView}
 use Rattle.domain_rule.specs.Reading.{FoundIn, HasRead}
 use Rattle.domain_rule.specs.Rule.{Kept}

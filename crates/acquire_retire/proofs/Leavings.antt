@@ -7,16 +7,16 @@ use Rattle.plain_state.specs.declared.slot.SlotId.{SlotId}
 use Rattle.plain_state.specs.Lists.{times}
 use Rattle.plain_state.specs.State.{Plain}
 use Rattle.plain_state.proofs.Kit.{times_append}
-use Rattle.plain_protocol.specs.Laws.{KeptByLeave}
-use Rattle.core_events.specs.declared.act.Act.TheVariants as act
-use Rattle.core_events.specs.declared.outcome.Outcome.TheVariants as outcome
-use Rattle.core_events.specs.declared.shape.Shape.{Shape}
-use Rattle.core_events.specs.declared.view.CoreView.{CoreView}
-use Rattle.core_events.specs.Good.{SeatLaw}
-use Rattle.core_events.specs.Runs.{IsShape, taken_over}
-use Rattle.core_events.specs.Steps.{CanLeave, noted}
-use Rattle.core_events.specs.Views.{room_of}
-use Rattle.retire_batch.specs.Entries.{Entries}
+use Rattle.domain_rule.specs.plain_protocol.Laws.{KeptByLeave}
+use Rattle.core_promises.specs.core_events.declared.act.Act.TheVariants as act
+use Rattle.core_promises.specs.core_events.declared.outcome.Outcome.TheVariants as outcome
+use Rattle.core_promises.specs.core_events.declared.shape.Shape.{Shape}
+use Rattle.core_promises.specs.core_events.declared.view.CoreView.{CoreView}
+use Rattle.core_promises.specs.core_events.Good.{SeatLaw}
+use Rattle.core_promises.specs.core_events.Runs.{IsShape, taken_over}
+use Rattle.core_promises.specs.core_events.Steps.{CanLeave, noted}
+use Rattle.core_promises.specs.core_events.Views.{room_of}
+use Rattle.dying_slots.specs.retire_batch.Entries.{Entries}
 use Rattle.dying_slots.specs.Dying.{DyingSlots}
 use Rattle.dying_slots.proofs.Waiting.{few_waiting, joined_waiting}
 use Rattle.domain_rule.specs.declared.view.SeatView.{SeatView}

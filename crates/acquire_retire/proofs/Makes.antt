@@ -8,18 +8,18 @@ use Rattle.plain_state.specs.declared.act.PlainAct.TheVariants as plain
 use Rattle.plain_state.specs.declared.slot.SlotId.{SlotId}
 use Rattle.plain_state.specs.Lists.{is_slot}
 use Rattle.plain_state.specs.Records.{IsRecord}
-use Rattle.plain_protocol.specs.Owns.{Object}
-use Rattle.core_events.specs.declared.act.Act.TheVariants as act
-use Rattle.core_events.specs.declared.outcome.Outcome.{Outcome}
-use Rattle.core_events.specs.declared.outcome.Outcome.TheVariants as outcome
-use Rattle.core_events.specs.declared.view.CoreView.{CoreView}
-use Rattle.core_events.specs.declared.view.Move.{Move}
-use Rattle.core_events.specs.declared.view.Phase.{Phase}
-use Rattle.core_events.specs.declared.view.Phase.TheVariants as phase
-use Rattle.core_events.specs.ShownSteps.{on_slot}
-use Rattle.core_events.specs.Steps.{moved}
-use Rattle.core_events.specs.Views.{slot_of}
-use Rattle.core_events.specs.Words.{bit_in}
+use Rattle.domain_rule.specs.plain_protocol.Owns.{Object}
+use Rattle.core_promises.specs.core_events.declared.act.Act.TheVariants as act
+use Rattle.core_promises.specs.core_events.declared.outcome.Outcome.{Outcome}
+use Rattle.core_promises.specs.core_events.declared.outcome.Outcome.TheVariants as outcome
+use Rattle.core_promises.specs.core_events.declared.view.CoreView.{CoreView}
+use Rattle.core_promises.specs.core_events.declared.view.Move.{Move}
+use Rattle.core_promises.specs.core_events.declared.view.Phase.{Phase}
+use Rattle.core_promises.specs.core_events.declared.view.Phase.TheVariants as phase
+use Rattle.core_promises.specs.core_events.ShownSteps.{on_slot}
+use Rattle.core_promises.specs.core_events.Steps.{moved}
+use Rattle.core_promises.specs.core_events.Views.{slot_of}
+use Rattle.core_promises.specs.core_events.Words.{bit_in}
 use Rattle.domain_rule.specs.Told.{changed_object}
 use Rattle.domain_rule.specs.Views.{object_in}
 use Rattle.domain_rule.proofs.Others.{fills_has}

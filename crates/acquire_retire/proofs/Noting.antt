@@ -6,16 +6,16 @@ use Rattle.std.proofs.Math.Seq.{map-set_same}
 use Rattle.plain_state.specs.declared.act.EventPlace.{EventPlace}
 use Rattle.plain_state.specs.declared.slot.Kind.{Kind}
 use Rattle.plain_state.specs.declared.slot.SlotId.{SlotId}
-use Rattle.core_events.specs.declared.act.Act.{Act}
-use Rattle.core_events.specs.declared.act.Act.TheVariants as act
-use Rattle.core_events.specs.declared.outcome.Outcome.{Outcome}
-use Rattle.core_events.specs.declared.shape.Shape.{Shape}
-use Rattle.core_events.specs.declared.view.CoreView.{CoreView}
-use Rattle.core_events.specs.declared.view.Note.{Note}
-use Rattle.core_events.specs.declared.view.Note.TheVariants as note
-use Rattle.core_events.specs.Steps.{answer, is_valid, moved, noted, validated, with_note}
-use Rattle.core_events.specs.Views.{note_of, slot_noted}
-use Rattle.counter_word.specs.Words.{value}
+use Rattle.core_promises.specs.core_events.declared.act.Act.{Act}
+use Rattle.core_promises.specs.core_events.declared.act.Act.TheVariants as act
+use Rattle.core_promises.specs.core_events.declared.outcome.Outcome.{Outcome}
+use Rattle.core_promises.specs.core_events.declared.shape.Shape.{Shape}
+use Rattle.core_promises.specs.core_events.declared.view.CoreView.{CoreView}
+use Rattle.core_promises.specs.core_events.declared.view.Note.{Note}
+use Rattle.core_promises.specs.core_events.declared.view.Note.TheVariants as note
+use Rattle.core_promises.specs.core_events.Steps.{answer, is_valid, moved, noted, validated, with_note}
+use Rattle.core_promises.specs.core_events.Views.{note_of, slot_noted}
+use Rattle.plain_state.specs.counter_word.Words.{value}
 use Rattle.acquire_retire.specs.Seats.{Stored, stored}
 use Rattle.acquire_retire.proofs.Calls.{kept}
 

@@ -6,15 +6,15 @@ use Rattle.atomic_table.specs.Seated.{TableId}
 use Rattle.atomic_table.specs.Table.{Me, Splits, opening}
 use Rattle.atomic_table.specs.declared.shared.Seat.{Seat as TableSeat}
 use Rattle.plain_state.specs.State.{Plain}
-use Rattle.plain_protocol.specs.Laws.{Starts}
-use Rattle.core_events.specs.declared.shape.Shape.{Shape}
-use Rattle.core_events.specs.Views.{Terms}
-use Rattle.core_events.specs.declared.shape.Quota.{Quota}
-use Rattle.core_events.specs.Runs.{AreTerms, IsShape}
-use Rattle.core_events.specs.Words.{each_from}
-use Rattle.core_events.specs.Words.{first_words, slot_at, word_count}
-use Rattle.core_law.proofs.Starts.{start_sound}
-use Rattle.core_law.proofs.Lists.{each_push}
+use Rattle.domain_rule.specs.plain_protocol.Laws.{Starts}
+use Rattle.core_promises.specs.core_events.declared.shape.Shape.{Shape}
+use Rattle.core_promises.specs.core_events.Views.{Terms}
+use Rattle.core_promises.specs.core_events.declared.shape.Quota.{Quota}
+use Rattle.core_promises.specs.core_events.Runs.{AreTerms, IsShape}
+use Rattle.core_promises.specs.core_events.Words.{each_from}
+use Rattle.core_promises.specs.core_events.Words.{first_words, slot_at, word_count}
+use Rattle.core_promises.proofs.Below.core_law.Starts.{start_sound}
+use Rattle.core_promises.proofs.Below.core_law.Lists.{each_push}
 use Rattle.domain_rule.specs.declared.view.SeatView.{SeatView}
 use Rattle.domain_rule.specs.declared.view.Whole.{Whole}
 use Rattle.domain_rule.specs.Opening.{first_of, opened_more, opened_view}

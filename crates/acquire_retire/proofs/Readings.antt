@@ -3,18 +3,18 @@ use Rattle.std.proofs.Common.{◌≡◌, ℕ, ◌+◌, ◌<◌, ◌≤◌, Bool,
 use Rattle.std.specs.Prelude.{if◌then◌else◌}
 use Rattle.std.proofs.lemmas.List.{map-append}
 use Rattle.std.proofs.lemmas.Bool.Decides.{nat_tests}
-use Rattle.core_events.specs.declared.act.Act.TheVariants as act
-use Rattle.core_events.specs.declared.outcome.Outcome.{Outcome}
-use Rattle.core_events.specs.declared.outcome.Outcome.TheVariants as outcome
-use Rattle.core_events.specs.declared.shape.Shape.{Shape}
-use Rattle.core_events.specs.declared.view.CoreView.{CoreView}
-use Rattle.core_events.specs.declared.view.Move.{Move}
-use Rattle.core_events.specs.declared.view.Phase.TheVariants as phase
+use Rattle.core_promises.specs.core_events.declared.act.Act.TheVariants as act
+use Rattle.core_promises.specs.core_events.declared.outcome.Outcome.{Outcome}
+use Rattle.core_promises.specs.core_events.declared.outcome.Outcome.TheVariants as outcome
+use Rattle.core_promises.specs.core_events.declared.shape.Shape.{Shape}
+use Rattle.core_promises.specs.core_events.declared.view.CoreView.{CoreView}
+use Rattle.core_promises.specs.core_events.declared.view.Move.{Move}
+use Rattle.core_promises.specs.core_events.declared.view.Phase.TheVariants as phase
 use Rattle.plain_state.specs.Ejection.{ejected, kept, ripened}
-use Rattle.core_events.specs.Steps.{IsIdle, all_seen, answer, is_last, moved}
-use Rattle.core_events.specs.Words.{announcements}
+use Rattle.core_promises.specs.core_events.Steps.{IsIdle, all_seen, answer, is_last, moved}
+use Rattle.core_promises.specs.core_events.Words.{announcements}
 use Rattle.plain_state.proofs.Ejections.{split_length}
-use Rattle.announce_slots.proofs.Staying.{few_kept}
+use Rattle.core_promises.proofs.Below.announce_slots.Staying.{few_kept}
 use Rattle.acquire_retire.specs.Calls.{IsSameView, Steps, same_view}
 use Rattle.acquire_retire.specs.Collecting.{Goes, Reads, Splits, move, read_by, scanned_by}
 use Rattle.acquire_retire.specs.Domains.{DomainState}

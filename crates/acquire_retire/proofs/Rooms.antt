@@ -3,15 +3,15 @@ use Rattle.std.proofs.Common.{◌≡◌, ⊎_elim, ℕ, zero, suc, ◌+◌, ◌*
 use Rattle.std.specs.Prelude.{if◌then◌else◌}
 use Rattle.std.proofs.lemmas.Bool.{cases_lt}
 use Rattle.std.proofs.lemmas.List.Sums.{sum_by-cons}
-use Rattle.core_events.specs.declared.act.Event.{Event}
-use Rattle.core_events.specs.declared.shape.Shape.{Shape}
-use Rattle.core_events.specs.declared.view.CoreView.{CoreView}
-use Rattle.core_events.specs.Counts.{total}
-use Rattle.core_events.specs.Good.{staying_room}
-use Rattle.core_events.specs.Runs.{AreTerms, Core, History, IsShape, view_at}
-use Rattle.core_events.specs.Views.{Terms, no_view, room_of}
-use Rattle.core_law.specs.Sound.{Sound}
-use Rattle.core_law.proofs.Always.{history_sound}
+use Rattle.core_promises.specs.core_events.declared.act.Event.{Event}
+use Rattle.core_promises.specs.core_events.declared.shape.Shape.{Shape}
+use Rattle.core_promises.specs.core_events.declared.view.CoreView.{CoreView}
+use Rattle.core_promises.specs.core_events.Counts.{total}
+use Rattle.core_promises.specs.core_events.Good.{staying_room}
+use Rattle.core_promises.specs.core_events.Runs.{AreTerms, Core, History, IsShape, view_at}
+use Rattle.core_promises.specs.core_events.Views.{Terms, no_view, room_of}
+use Rattle.core_promises.specs.core_law.Sound.{Sound}
+use Rattle.core_promises.proofs.Below.core_law.Always.{history_sound}
 use Rattle.acquire_retire.specs.Seats.{HasBatch}
 
 staying_least : (v : CoreView) (r : ℕ) → v.room ≡ r → staying_room v ≤ r

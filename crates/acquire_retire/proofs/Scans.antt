@@ -5,21 +5,21 @@ use Rattle.std.proofs.lemmas.Bool.Decides.{nat_tests}
 use Rattle.atomic_table.specs.declared.shared.Seat.{Seat as TableSeat}
 use Rattle.plain_state.specs.declared.act.PlainAct.{PlainAct}
 use Rattle.plain_state.specs.State.{Plain}
-use Rattle.plain_protocol.specs.Owns.{OwnPart}
-use Rattle.core_events.specs.declared.act.Act.TheVariants as act
-use Rattle.core_events.specs.declared.outcome.Outcome.TheVariants as outcome
-use Rattle.core_events.specs.declared.shape.Shape.{Shape}
-use Rattle.core_events.specs.declared.view.CoreView.{CoreView}
-use Rattle.core_events.specs.declared.view.Phase.TheVariants as phase
-use Rattle.core_events.specs.Good.{SeatLaw}
-use Rattle.core_events.specs.Steps.{all_seen, answer, is_last, moved}
+use Rattle.domain_rule.specs.plain_protocol.Owns.{OwnPart}
+use Rattle.core_promises.specs.core_events.declared.act.Act.TheVariants as act
+use Rattle.core_promises.specs.core_events.declared.outcome.Outcome.TheVariants as outcome
+use Rattle.core_promises.specs.core_events.declared.shape.Shape.{Shape}
+use Rattle.core_promises.specs.core_events.declared.view.CoreView.{CoreView}
+use Rattle.core_promises.specs.core_events.declared.view.Phase.TheVariants as phase
+use Rattle.core_promises.specs.core_events.Good.{SeatLaw}
+use Rattle.core_promises.specs.core_events.Steps.{all_seen, answer, is_last, moved}
 use Rattle.std.specs.Prelude.{not}
 use Rattle.std.specs.List.{filter}
 use Rattle.dying_slots.specs.Dying.{is_free, waiting_of}
 use Rattle.dying_slots.proofs.Waiting.{ripened_waiting, waiting_after}
 use Rattle.plain_state.specs.Ejection.{Announcements}
-use Rattle.eject_scan.specs.Seen.{announced, noted, total, with_word}
-use Rattle.eject_scan.proofs.Announcements.{announced_alike, fewer, noted_more}
+use Rattle.dying_slots.specs.eject_scan.Seen.{announced, noted, total, with_word}
+use Rattle.dying_slots.proofs.Below.eject_scan.Announcements.{announced_alike, fewer, noted_more}
 use Rattle.plain_state.specs.Ejection as batch
 use Rattle.domain_rule.specs.declared.view.SeatView.{SeatView}
 use Rattle.acquire_retire.specs.Calls.{Stepped}

@@ -7,19 +7,19 @@ use Rattle.atomic_table.specs.Table.{Allows, Me}
 use Rattle.atomic_table.specs.declared.shared.Seat.{Seat as TableSeat}
 use Rattle.plain_state.specs.declared.act.PlainAct.{PlainAct}
 use Rattle.plain_state.specs.State.{Plain}
-use Rattle.plain_protocol.specs.Laws.{Keeps}
-use Rattle.plain_protocol.specs.Owns.{OwnPart}
-use Rattle.core_events.specs.declared.act.Act.{Act}
-use Rattle.core_events.specs.declared.act.Event.{Event}
-use Rattle.core_events.specs.declared.shape.Shape.{Shape}
-use Rattle.core_events.specs.Views.{Terms}
-use Rattle.core_events.specs.declared.view.CoreView.{CoreView}
-use Rattle.core_events.specs.Good.{SeatLaw}
-use Rattle.core_events.specs.Runs.{Core, History, IsShape, after}
-use Rattle.core_events.specs.Steps.{May, next, place}
-use Rattle.core_events.specs.Words.{word_count}
-use Rattle.core_law.proofs.InRange.{place_in}
-use Rattle.core_law.proofs.Trails.{changed_trail}
+use Rattle.domain_rule.specs.plain_protocol.Laws.{Keeps}
+use Rattle.domain_rule.specs.plain_protocol.Owns.{OwnPart}
+use Rattle.core_promises.specs.core_events.declared.act.Act.{Act}
+use Rattle.core_promises.specs.core_events.declared.act.Event.{Event}
+use Rattle.core_promises.specs.core_events.declared.shape.Shape.{Shape}
+use Rattle.core_promises.specs.core_events.Views.{Terms}
+use Rattle.core_promises.specs.core_events.declared.view.CoreView.{CoreView}
+use Rattle.core_promises.specs.core_events.Good.{SeatLaw}
+use Rattle.core_promises.specs.core_events.Runs.{Core, History, IsShape, after}
+use Rattle.core_promises.specs.core_events.Steps.{May, next, place}
+use Rattle.core_promises.specs.core_events.Words.{word_count}
+use Rattle.core_promises.proofs.Below.core_law.InRange.{place_in}
+use Rattle.core_promises.proofs.Below.core_law.Trails.{changed_trail}
 use Rattle.domain_rule.specs.declared.view.SeatView.{SeatView}
 use Rattle.domain_rule.specs.declared.view.Whole.{Whole}
 use Rattle.domain_rule.specs.Rule.{Kept}

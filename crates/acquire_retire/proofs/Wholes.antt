@@ -10,13 +10,13 @@ use Rattle.plain_state.specs.declared.image.Heap.{Heap}
 use Rattle.plain_state.specs.Fits.{AllFit}
 use Rattle.plain_state.specs.Images.{IsImage}
 use Rattle.plain_state.specs.State.{Plain}
-use Rattle.core_events.specs.declared.shape.Shape.{Shape}
-use Rattle.core_events.specs.Views.{Terms}
-use Rattle.core_events.specs.declared.view.CoreView.{CoreView}
-use Rattle.core_events.specs.Runs.{Core}
-use Rattle.core_events.specs.Shows.{shows}
-use Rattle.core_law.specs.Sound.{Sound}
-use Rattle.core_law.proofs.Lawful.{shows_lawful}
+use Rattle.core_promises.specs.core_events.declared.shape.Shape.{Shape}
+use Rattle.core_promises.specs.core_events.Views.{Terms}
+use Rattle.core_promises.specs.core_events.declared.view.CoreView.{CoreView}
+use Rattle.core_promises.specs.core_events.Runs.{Core}
+use Rattle.core_promises.specs.core_events.Shows.{shows}
+use Rattle.core_promises.specs.core_law.Sound.{Sound}
+use Rattle.core_promises.proofs.Below.core_law.Lawful.{shows_lawful}
 use Rattle.domain_rule.specs.declared.view.SeatView.{SeatView}
 use Rattle.domain_rule.specs.declared.view.Whole.{Whole}
 use Rattle.domain_rule.specs.Rule.{Kept, clients}

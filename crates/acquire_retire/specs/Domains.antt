@@ -1,10 +1,10 @@
 -- What callers see of a domain.
 use Rattle.std.specs.Prelude.{ℕ, ◌≡◌, List}
 use Rattle.atomic_table.specs.Seated.{TableId}
-use Rattle.core_events.specs.declared.shape.Shape.{Shape}
-use Rattle.core_events.specs.Runs.{AreTerms, IsShape}
-use Rattle.core_events.specs.Views.{Terms}
-use Rattle.core_events.specs.Words.{slot_at, word_count}
+use Rattle.core_promises.specs.core_events.declared.shape.Shape.{Shape}
+use Rattle.core_promises.specs.core_events.Runs.{AreTerms, IsShape}
+use Rattle.core_promises.specs.core_events.Views.{Terms}
+use Rattle.core_promises.specs.core_events.Words.{slot_at, word_count}
 
 -- which table its words are in, its protocol, its sizes, and what each seat may use up
 pub record DomainState (P : Type 0) : Type 0 where

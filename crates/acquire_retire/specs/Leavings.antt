@@ -2,9 +2,9 @@
 use Rattle.std.specs.Prelude.{ℕ, ◌≡◌, ◌↔◌, List, Option, Some, None, IsSome}
 use Rattle.atomic_table.specs.declared.shared.Seat.{Seat as TableSeat}
 use Rattle.plain_state.specs.declared.slot.SlotId.{SlotId}
-use Rattle.plain_protocol.specs.Owns.{HasSlot}
-use Rattle.core_events.specs.Shows.{show_seat}
-use Rattle.core_events.specs.Steps.{CanLeave}
+use Rattle.domain_rule.specs.plain_protocol.Owns.{HasSlot}
+use Rattle.core_promises.specs.core_events.Shows.{show_seat}
+use Rattle.core_promises.specs.core_events.Steps.{CanLeave}
 use Rattle.domain_rule.specs.declared.view.SeatView.{SeatView}
 use Rattle.domain_rule.specs.Opening.{joined_view}
 use Rattle.domain_rule.specs.Reading.{FoundIn}

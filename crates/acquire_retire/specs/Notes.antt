@@ -1,9 +1,9 @@
 -- Which of a seat's announcement words stands for nothing.
 use Rattle.std.specs.Prelude.{ℕ, Bool, true, false, Option, Some, None, if◌then◌else◌}
-use Rattle.core_events.specs.declared.view.CoreView.{CoreView}
-use Rattle.core_events.specs.declared.view.Note.{Note}
-use Rattle.core_events.specs.declared.view.Note.TheVariants as note
-use Rattle.core_events.specs.Views.{note_of}
+use Rattle.core_promises.specs.core_events.declared.view.CoreView.{CoreView}
+use Rattle.core_promises.specs.core_events.declared.view.Note.{Note}
+use Rattle.core_promises.specs.core_events.declared.view.Note.TheVariants as note
+use Rattle.core_promises.specs.core_events.Views.{note_of}
 
 abbrev pub is_free : Note → Bool
 is_free note.Idle = true

@@ -1,9 +1,9 @@
 -- What callers see of a domain and of its seats when they are opened, and when a seat leaves.
 use Rattle.std.specs.Prelude.{ℕ, ◌≡◌, ◌==◌, List, [], Option, Some, None, if◌then◌else◌}
 use Rattle.atomic_table.specs.declared.shared.Seat.{Seat as TableSeat}
-use Rattle.core_events.specs.declared.shape.Shape.{Shape}
-use Rattle.core_events.specs.Views.{Terms}
-use Rattle.core_events.specs.Words.{each_from}
+use Rattle.core_promises.specs.core_events.declared.shape.Shape.{Shape}
+use Rattle.core_promises.specs.core_events.Views.{Terms}
+use Rattle.core_promises.specs.core_events.Words.{each_from}
 use Rattle.domain_rule.specs.declared.view.SeatView.{SeatView}
 use Rattle.domain_rule.specs.Opening.{opened_view}
 use Rattle.acquire_retire.specs.Domains.{DomainState}

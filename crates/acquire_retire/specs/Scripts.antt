@@ -4,15 +4,15 @@ use Rattle.plain_state.specs.Limits.{words_of_payload}
 use Rattle.plain_state.specs.declared.act.EventPlace.TheVariants.{Field, WeakField}
 use Rattle.plain_state.specs.declared.slot.Kind.TheVariants.{Weak}
 use Rattle.plain_state.specs.declared.slot.SlotId.{SlotId}
-use Rattle.core_events.specs.declared.act.Act.{Act}
-use Rattle.core_events.specs.declared.act.Act.TheVariants as act
-use Rattle.core_events.specs.declared.outcome.Outcome.{Outcome}
-use Rattle.core_events.specs.declared.shape.Shape.{Shape}
-use Rattle.core_events.specs.declared.view.CoreView.{CoreView}
-use Rattle.core_events.specs.declared.view.Phase.TheVariants as phase
-use Rattle.core_events.specs.Steps.{May, answer, decremented, moved}
-use Rattle.core_events.specs.Views.{first_view}
-use Rattle.core_events.specs.declared.shape.Quota.{Quota}
+use Rattle.core_promises.specs.core_events.declared.act.Act.{Act}
+use Rattle.core_promises.specs.core_events.declared.act.Act.TheVariants as act
+use Rattle.core_promises.specs.core_events.declared.outcome.Outcome.{Outcome}
+use Rattle.core_promises.specs.core_events.declared.shape.Shape.{Shape}
+use Rattle.core_promises.specs.core_events.declared.view.CoreView.{CoreView}
+use Rattle.core_promises.specs.core_events.declared.view.Phase.TheVariants as phase
+use Rattle.core_promises.specs.core_events.Steps.{May, answer, decremented, moved}
+use Rattle.core_promises.specs.core_events.Views.{first_view}
+use Rattle.core_promises.specs.core_events.declared.shape.Quota.{Quota}
 use Rattle.domain_rule.specs.Views.{object_in}
 use Rattle.acquire_retire.specs.Domains.{DomainState}
 use Rattle.acquire_retire.specs.Seats.{SeatState}

@@ -4,15 +4,15 @@ use Rattle.atomic_table.specs.Seated.{TableId}
 use Rattle.atomic_table.specs.Table.{Me}
 use Rattle.plain_state.specs.declared.slot.SlotId.{SlotId}
 use Rattle.plain_state.specs.Lists.{Entry}
-use Rattle.core_events.specs.declared.shape.Quota.{Quota}
-use Rattle.core_events.specs.declared.view.CoreView.{CoreView}
-use Rattle.core_events.specs.declared.view.Phase.{Phase}
-use Rattle.core_events.specs.Good.{SeatLaw}
-use Rattle.core_events.specs.Runs.{IsShape}
-use Rattle.core_events.specs.Views.{granted, room_of, slot_noted}
+use Rattle.core_promises.specs.core_events.declared.shape.Quota.{Quota}
+use Rattle.core_promises.specs.core_events.declared.view.CoreView.{CoreView}
+use Rattle.core_promises.specs.core_events.declared.view.Phase.{Phase}
+use Rattle.core_promises.specs.core_events.Good.{SeatLaw}
+use Rattle.core_promises.specs.core_events.Runs.{IsShape}
+use Rattle.core_promises.specs.core_events.Views.{granted, room_of, slot_noted}
 use Rattle.dying_slots.specs.Dying.{waiting_of}
-use Rattle.eject_scan.specs.Seen.{noted}
-use Rattle.eject_scan.specs.declared.seen.Row.{Row}
+use Rattle.dying_slots.specs.eject_scan.Seen.{noted}
+use Rattle.dying_slots.specs.eject_scan.declared.seen.Row.{Row}
 use Rattle.domain_rule.specs.declared.view.SeatView.{SeatView}
 use Rattle.domain_rule.specs.Views.{KnowsAll}
 

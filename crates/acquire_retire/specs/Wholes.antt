@@ -6,12 +6,12 @@ use Rattle.plain_state.specs.Fits.{AllFit}
 use Rattle.plain_state.specs.Images.{IsImage}
 use Rattle.plain_state.specs.Lawful.{Lawful}
 use Rattle.plain_state.specs.State.{Plain}
-use Rattle.core_events.specs.Counts.{barers}
-use Rattle.core_events.specs.Runs.{Core, view_at}
-use Rattle.core_events.specs.Shows.{shows}
-use Rattle.counter_word.specs.Words.{ZERO}
+use Rattle.core_promises.specs.core_events.Counts.{barers}
+use Rattle.core_promises.specs.core_events.Runs.{Core, view_at}
+use Rattle.core_promises.specs.core_events.Shows.{shows}
+use Rattle.plain_state.specs.counter_word.Words.{ZERO}
 use Rattle.plain_state.specs.declared.slot.SlotId.{SlotId}
-use Rattle.core_law.specs.Sound.{Sound}
+use Rattle.core_promises.specs.core_law.Sound.{Sound}
 use Rattle.domain_rule.specs.declared.view.SeatView.{SeatView}
 use Rattle.domain_rule.specs.declared.view.Whole.{Whole}
 use Rattle.domain_rule.specs.Views.{core_in, own_of}

@@ -3,8 +3,7 @@ ghost use Rattle.std.specs.Prelude.{ℕ, ◌≡◌, Option, Some, None};
 ghost use Rattle.acquire_retire.specs.Calls.{Aimed, Finds};
 
 use atomic_table::Play;
-use domain_rule::SeatView;
-use plain_protocol::{Deed, Protocol};
+use domain_rule::{Deed, Protocol, SeatView};
 use std::marker::{Brand, PhantomData};
 
 /// Which domain a step is of, and which deed and act it is. A call at `Brand` picks it, since a `Play` sees

@@ -1,14 +1,13 @@
 //! The kinds of atomic step, each as one event of the table of events.
 ghost use Rattle.std.specs.Prelude.{ℕ, ◌==◌, ◌+◌, ◌%◌, ◌^◌, bit_and};
 ghost use prog.Atomic.{either};
-ghost use Rattle.core_events.specs.Steps.{minus_one};
+ghost use Rattle.core_promises.specs.core_events.Steps.{minus_one};
 ghost use Rattle.acquire_retire.specs.Calls.{CanStep, IsAimed, Stepped};
 
 use crate::aim::{Aim, Reads, Writes};
 use crate::domain::Domain;
-use core_events::Act;
-use domain_rule::SeatView;
-use plain_protocol::{Deed, Protocol};
+use core_promises::Act;
+use domain_rule::{Deed, Protocol, SeatView};
 
 // Each asks that the act is of this kind, so that the table's atomic operation makes of the word what the act does.
 impl<P: Protocol> Domain<P> {

@@ -1,12 +1,12 @@
 //! How a domain ends.
-ghost use Rattle.core_events.specs.Steps.{CanLeave};
+ghost use Rattle.core_promises.specs.core_events.Steps.{CanLeave};
 ghost use Rattle.domain_rule.specs.Views.{IsAlone};
 ghost use Rattle.acquire_retire.specs.Calls.{IsOf};
 ghost use Rattle.acquire_retire.specs.Wholes.{IsLast};
 
 use crate::domain::Domain;
 use crate::seat::{Seat, SeatOf};
-use plain_protocol::Protocol;
+use domain_rule::Protocol;
 
 impl<P: Protocol> Domain<P> {
     /// Gives up the domain and seat 0, once every other seat has left. The client's law holds of the state that seat 0

@@ -1,14 +1,14 @@
 //! A collect: a seat reads all announcement words, and gives up what it had retired and nobody announces any more.
 ghost use Rattle.std.specs.Prelude.{◌≡◌, ◌≢◌, [], ◌∷◌, length};
-ghost use Rattle.core_events.specs.Steps.{IsIdle};
+ghost use Rattle.core_promises.specs.core_events.Steps.{IsIdle};
 ghost use Rattle.acquire_retire.specs.Calls.{IsOf};
 ghost use Rattle.acquire_retire.specs.Collecting.{Collects, Pays, PaysFor, ReadsAllButOne, Splits};
 
 use crate::domain::Domain;
 use crate::payment::{Payment, Work};
 use crate::seat::Seat;
-use core_events::Outcome;
-use plain_protocol::Protocol;
+use core_promises::Outcome;
+use domain_rule::Protocol;
 use plain_state::WORDS_OF_SEAT;
 
 impl<P: Protocol> Domain<P> {

@@ -1,17 +1,17 @@
 //! Calls on the strong words of slots. Each is one atomic step.
 ghost use Rattle.std.specs.Prelude.{◌≡◌, nat_lt, if◌then◌else◌};
-ghost use Rattle.core_events.specs.declared.act.Act.TheVariants as act;
-ghost use Rattle.core_events.specs.declared.outcome.Outcome.TheVariants as outcome;
-ghost use Rattle.core_events.specs.Steps.{May};
-ghost use Rattle.counter_word.specs.Words.{ZERO};
+ghost use Rattle.core_promises.specs.core_events.declared.act.Act.TheVariants as act;
+ghost use Rattle.core_promises.specs.core_events.declared.outcome.Outcome.TheVariants as outcome;
+ghost use Rattle.core_promises.specs.core_events.Steps.{May};
+ghost use Rattle.plain_state.specs.counter_word.Words.{ZERO};
 ghost use Rattle.acquire_retire.specs.Calls.{IsOf, IsReady, IsSameView, Steps, same_view};
 
 use crate::domain::Domain;
 use crate::seat::Seat;
-use core_events::{Act, Kind, Outcome, Phase, SlotId};
-use core_functions::given_up;
-use counter_word::{HELP, ZERO, has_help, value};
-use plain_protocol::{Deed, Protocol, Still};
+use core_promises::{Act, Kind, Outcome, Phase, SlotId};
+use domain_rule::{Deed, Protocol, Still};
+use dying_slots::given_up;
+use plain_state::{HELP, ZERO, has_help, value};
 use std::marker::Brand;
 
 /// Whether an add counted, by the word that it found.

@@ -1,8 +1,7 @@
 //! The domain, which threads share.
 use atomic_table::Table;
-use core_events::Shape;
-use domain_rule::{Charter, DomainRule, SeatView};
-use plain_protocol::Protocol;
+use core_promises::Shape;
+use domain_rule::{Charter, DomainRule, Protocol, SeatView};
 use std::alloc::Global;
 use std::marker::Model;
 

@@ -2,8 +2,8 @@
 ghost use Rattle.std.specs.Prelude.{◌≡◌};
 ghost use Rattle.acquire_retire.specs.declared.errors.OpenError.TheVariants as opening;
 
-use core_events::ShapeField;
-use out_of_memory::OutOfMemory as NoMemory;
+use core_promises::ShapeField;
+use dying_slots::OutOfMemory as NoMemory;
 use thiserror::Error;
 
 /// Why there is no domain of this shape.

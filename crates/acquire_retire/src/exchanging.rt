@@ -1,15 +1,15 @@
 //! Calls that change a place. What it held is retired. Each is one atomic step.
 ghost use Rattle.std.specs.Prelude.{◌≡◌};
-ghost use Rattle.core_events.specs.declared.act.Act.TheVariants as act;
-ghost use Rattle.core_events.specs.Steps.{May};
+ghost use Rattle.core_promises.specs.core_events.declared.act.Act.TheVariants as act;
+ghost use Rattle.core_promises.specs.core_events.Steps.{May};
 ghost use Rattle.acquire_retire.specs.Calls.{IsOf, IsReady, Steps};
 
 use crate::domain::Domain;
 use crate::seat::Seat;
 use crate::splitting::retire;
-use core_events::{Act, EventPlace, Outcome, SlotId};
-use core_functions::{found_in, held_as, kind_of};
-use plain_protocol::{Deed, Protocol};
+use core_promises::{Act, EventPlace, Outcome, SlotId};
+use domain_rule::{Deed, Protocol};
+use dying_slots::{found_in, held_as, kind_of};
 use std::marker::Brand;
 
 impl<P: Protocol> Domain<P> {

@@ -2,17 +2,17 @@
 //! step.
 ghost use Rattle.std.specs.Prelude.{◌≡◌};
 ghost use Rattle.plain_state.specs.declared.slot.SlotId.{SlotId};
-ghost use Rattle.core_events.specs.declared.act.Act.TheVariants as act;
-ghost use Rattle.core_events.specs.declared.view.Phase.TheVariants as phase;
-ghost use Rattle.core_events.specs.Steps.{May};
+ghost use Rattle.core_promises.specs.core_events.declared.act.Act.TheVariants as act;
+ghost use Rattle.core_promises.specs.core_events.declared.view.Phase.TheVariants as phase;
+ghost use Rattle.core_promises.specs.core_events.Steps.{May};
 ghost use Rattle.domain_rule.specs.Views.{object_in};
 ghost use Rattle.acquire_retire.specs.Calls.{IsOf, IsReady, IsSameView, Steps, same_view};
 
 use crate::domain::Domain;
 use crate::seat::Seat;
-use core_events::{Act, Kind, Outcome, Phase, SlotId};
-use core_functions::{bit_alone, has_bit};
-use plain_protocol::{Deed, Protocol, Still};
+use core_promises::{Act, Kind, Outcome, Phase, SlotId};
+use domain_rule::{Deed, Protocol, Still};
+use dying_slots::{bit_alone, has_bit};
 use std::marker::Brand;
 
 impl<P: Protocol> Domain<P> {

@@ -5,8 +5,8 @@ ghost use Rattle.acquire_retire.specs.Calls.{IsOf};
 
 use crate::domain::Domain;
 use crate::seat::Seat;
-use core_events::SlotId;
-use plain_protocol::Protocol;
+use core_promises::SlotId;
+use domain_rule::Protocol;
 
 /// Remembers a slot that was given back, if there is room.
 pub(crate) fn remember(freed: &mut Vec<SlotId>, slot: SlotId) {

@@ -3,22 +3,19 @@ ghost use Rattle.std.specs.Prelude.{◌≡◌, ◌+◌, ◌<◌, ◌≤◌, [], 
 ghost use Rattle.plain_state.specs.Limits.{words_of_payload};
 ghost use Rattle.plain_state.specs.Images.{IsImage, image_at};
 ghost use Rattle.plain_state.specs.State.{seat_at};
-ghost use Rattle.core_events.specs.Words.{each_from};
-ghost use Rattle.core_events.specs.Steps.{IsIdle};
-ghost use Rattle.core_events.specs.Words.{word_count};
+ghost use Rattle.core_promises.specs.core_events.Words.{each_from};
+ghost use Rattle.core_promises.specs.core_events.Steps.{IsIdle};
+ghost use Rattle.core_promises.specs.core_events.Words.{word_count};
 ghost use Rattle.domain_rule.specs.Views.{IsAlone};
 ghost use Rattle.acquire_retire.specs.Calls.{IsOf};
 ghost use Rattle.acquire_retire.specs.Wholes.{IsSame, IsWholeImage, KnowsCore, known_state, known_word, strong_image};
 
 use crate::domain::Domain;
 use crate::seat::Seat;
-use core_events::{EventPlace, Kind, SlotId};
-use core_functions::{place_index, slot_index};
-use counter_word::ZERO;
-use domain_rule::SeatView;
-use out_of_memory::OutOfMemory;
-use plain_protocol::Protocol;
-use plain_state::{Heap, SlotImage};
+use core_promises::{EventPlace, Kind, SlotId};
+use domain_rule::{Protocol, SeatView};
+use dying_slots::{OutOfMemory, place_index, slot_index};
+use plain_state::{Heap, SlotImage, ZERO};
 use std::alloc::Global;
 
 /// A strong word without the numbers below its zero flag.

@@ -1,6 +1,6 @@
 //! How a seat leaves.
 ghost use Rattle.std.specs.Prelude.{◌≡◌, [], Some};
-ghost use Rattle.core_events.specs.Steps.{CanLeave};
+ghost use Rattle.core_promises.specs.core_events.Steps.{CanLeave};
 ghost use Rattle.domain_rule.specs.Opening.{gone_view, joined_view};
 ghost use Rattle.acquire_retire.specs.Calls.{IsOf};
 ghost use Rattle.acquire_retire.specs.Leavings.{HasJoined, MayJoin, TookOver, joined_in};
@@ -9,8 +9,7 @@ use crate::domain::Domain;
 use crate::seat::{Seat, SeatOf};
 use crate::site::Site;
 use atomic_table::Join;
-use domain_rule::SeatView;
-use plain_protocol::Protocol;
+use domain_rule::{Protocol, SeatView};
 use std::marker::{Brand, PhantomData};
 
 /// Seat 0 takes over what a seat has.

@@ -43,17 +43,13 @@ mod seat;
 mod site;
 mod splitting;
 mod standing;
-#[cfg(test)]
-mod tests;
-#[cfg(test)]
-mod tests_help;
-#[cfg(test)]
-mod tests_seats;
 mod tickets;
 mod weak_counters;
 
-pub use core_events::{EventPlace, Kind, Outcome, Quota, Shape, ShapeField, SlotId};
+pub use core_promises::{EventPlace, Kind, Outcome, Quota, Shape, ShapeField, SlotId};
 pub use domain::Domain;
+pub use domain_rule::{AnyStep, Deed, NoLaw, Protocol, Still};
+pub use dying_slots::{OutOfMemory, has_bit, held_as, kind_of};
 pub use errors::OpenError;
 pub use image::empty_image;
 pub use opening::{open_domain, open_granted};

@@ -1,10 +1,10 @@
 //! How a domain is opened, with all its seats.
 ghost use Rattle.std.specs.Prelude.{ℕ, ◌≡◌, ◌↔◌, ◌+◌, ◌-◌, ◌*◌, ◌^◌, ◌<◌, ◌≤◌, List, [], Option, Some, None, Err, IfOk, OnOk, sum};
-ghost use Rattle.core_events.specs.declared.shape.ShapeField.{ShapeField};
-ghost use Rattle.core_events.specs.Runs.{AreTerms, IsShape};
-ghost use Rattle.core_events.specs.Words.{each_from};
-ghost use Rattle.core_events.specs.Views.{first_view, room_of};
-ghost use Rattle.core_functions.specs.Fields.{IsFirstBad};
+ghost use Rattle.core_promises.specs.core_events.declared.shape.ShapeField.{ShapeField};
+ghost use Rattle.core_promises.specs.core_events.Runs.{AreTerms, IsShape};
+ghost use Rattle.core_promises.specs.core_events.Words.{each_from};
+ghost use Rattle.core_promises.specs.core_events.Views.{first_view, room_of};
+ghost use Rattle.dying_slots.specs.core_functions.Fields.{IsFirstBad};
 ghost use Rattle.domain_rule.specs.Opening.{opened_more};
 ghost use Rattle.acquire_retire.specs.declared.errors.OpenError.TheVariants.{BadShape};
 ghost use Rattle.acquire_retire.specs.Openings.{IsFirst, IsNew, begun_seat, newcomer, opened_seats};
@@ -15,15 +15,10 @@ use crate::errors::OpenError;
 use crate::seat::{Seat, SeatOf};
 use crate::site::Site;
 use atomic_table::{Split, Table};
-use core_events::{Phase, Quota, Shape, SlotId};
-use core_functions::{first_bad, first_words, slot_index};
-use domain_rule::{Charter, SeatView};
-use dying_slots::Dying;
-use eject_scan::Seen;
-use out_of_memory::OutOfMemory;
-use plain_protocol::Protocol;
+use core_promises::{Phase, Quota, Shape, SlotId};
+use domain_rule::{Charter, Protocol, SeatView};
+use dying_slots::{Batch, Dying, OutOfMemory, Seen, first_bad, first_words, slot_index};
 use plain_state::WORDS_OF_SEAT;
-use retire_batch::Batch;
 use std::alloc::Global;
 use std::marker::{Brand, PhantomData};
 

@@ -3,12 +3,12 @@
 //! A call whose proof rests on the ranges of a domain's sizes reads `_sizes`: a proof knows what a value keeps once the
 //! body reads a part of it.
 ghost use Rattle.std.specs.Prelude.{◌≡◌, ◌<◌, ◌^◌};
-ghost use Rattle.core_events.specs.Steps.{counter_at};
-ghost use Rattle.core_events.specs.Words.{bits_at, payload_at, place_at, slot_at};
+ghost use Rattle.core_promises.specs.core_events.Steps.{counter_at};
+ghost use Rattle.core_promises.specs.core_events.Words.{bits_at, payload_at, place_at, slot_at};
 
 use crate::domain::Domain;
-use core_events::{EventPlace, Kind, SlotId};
-use plain_protocol::Protocol;
+use core_promises::{EventPlace, Kind, SlotId};
+use domain_rule::Protocol;
 use plain_state::{WORDS_OF_SEAT, WORDS_OF_SLOT};
 
 impl<P: Protocol> Domain<P> {

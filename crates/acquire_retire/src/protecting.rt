@@ -1,16 +1,15 @@
 //! Calls that protect what a seat reads from a place. Each is one atomic step.
 ghost use Rattle.std.specs.Prelude.{◌≡◌};
-ghost use Rattle.core_events.specs.declared.act.Act.TheVariants as act;
-ghost use Rattle.core_events.specs.Steps.{May};
+ghost use Rattle.core_promises.specs.core_events.declared.act.Act.TheVariants as act;
+ghost use Rattle.core_promises.specs.core_events.Steps.{May};
 ghost use Rattle.acquire_retire.specs.Calls.{IsOf, IsReady, IsSameView, Steps, same_view};
 
 use crate::domain::Domain;
 use crate::seat::Seat;
-use announce_slots::announced_as;
-use core_events::{Act, EventPlace, Kind, Outcome, SlotId};
-use core_functions::{found_in, held_as, note_index};
-use counter_word::value;
-use plain_protocol::{Deed, Protocol, Still};
+use core_promises::{Act, EventPlace, Kind, Outcome, SlotId, announced_as};
+use domain_rule::{Deed, Protocol, Still};
+use dying_slots::{found_in, held_as, note_index};
+use plain_state::value;
 use std::marker::Brand;
 
 impl<P: Protocol> Domain<P> {

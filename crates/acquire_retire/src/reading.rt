@@ -1,14 +1,13 @@
 //! A load that is no event: a seat learns what a word holds, and that its own view is so.
 ghost use Rattle.std.specs.Prelude.{◌≡◌, ◌<◌, false, Some};
-ghost use Rattle.core_events.specs.Words.{word_count};
+ghost use Rattle.core_promises.specs.core_events.Words.{word_count};
 ghost use Rattle.domain_rule.specs.Reading.{HasRead};
 ghost use Rattle.acquire_retire.specs.Domains.{DomainState};
 
 use crate::domain::Domain;
 use crate::site::Site;
 use atomic_table::Play;
-use domain_rule::SeatView;
-use plain_protocol::Protocol;
+use domain_rule::{Protocol, SeatView};
 use std::marker::{Brand, PhantomData};
 
 /// A load by which a seat learns.

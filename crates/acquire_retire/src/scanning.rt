@@ -1,14 +1,14 @@
 //! The scan that reads all announcement words. Each word is one atomic step.
 ghost use Rattle.std.specs.Prelude.{◌≡◌, ◌+◌, true, false, length};
-ghost use Rattle.core_events.specs.declared.act.Act.TheVariants as act;
-ghost use Rattle.core_events.specs.Steps.{May, is_last};
+ghost use Rattle.core_promises.specs.core_events.declared.act.Act.TheVariants as act;
+ghost use Rattle.core_promises.specs.core_events.Steps.{May, is_last};
 ghost use Rattle.acquire_retire.specs.Calls.{IsOf, IsSameView, Steps, same_view};
 
 use crate::domain::Domain;
 use crate::seat::Seat;
 use crate::splitting::split;
-use core_events::{Act, Outcome, Phase};
-use plain_protocol::{Protocol, Still};
+use core_promises::{Act, Outcome, Phase};
+use domain_rule::{Protocol, Still};
 use plain_state::WORDS_OF_SEAT;
 use std::marker::Brand;
 

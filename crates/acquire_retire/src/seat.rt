@@ -1,10 +1,7 @@
 //! A seat of a domain, with which one thread at a time steps.
-use core_events::{Phase, Quota, SlotId};
-use domain_rule::SeatView;
-use dying_slots::Dying;
-use eject_scan::Seen;
-use plain_protocol::Protocol;
-use retire_batch::Batch;
+use core_promises::{Phase, Quota, SlotId};
+use domain_rule::{Protocol, SeatView};
+use dying_slots::{Batch, Dying, Seen};
 use std::marker::Model;
 
 /// What one thread at a time steps with. W is what the client of the domain keeps with it.

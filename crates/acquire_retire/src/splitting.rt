@@ -3,14 +3,12 @@ ghost use Rattle.std.specs.Prelude.{◌≡◌, ◌<◌, ◌≤◌, [], ◌∷◌
 ghost use Rattle.std.specs.List.{filter};
 ghost use Rattle.plain_state.specs.Steps.{joined};
 ghost use Rattle.plain_state.specs.Ejection.{kept, ejected, ripened, ripens};
-ghost use Rattle.retire_batch.specs.Entries.{entry_count};
-ghost use Rattle.eject_scan.specs.Seen.{announced};
+ghost use Rattle.dying_slots.specs.retire_batch.Entries.{entry_count};
+ghost use Rattle.dying_slots.specs.eject_scan.Seen.{announced};
 
-use core_events::{Kind, SlotId};
-use core_functions::has_slot;
-use eject_scan::Seen;
+use core_promises::{Kind, SlotId};
+use dying_slots::{Batch, Seen, has_slot};
 use plain_state::Announced;
-use retire_batch::Batch;
 
 /// Splits the retired entries, and tells how many stay and how many go.
 #[tactic(auto, using(plain_state::proofs::Ejections::split_length))]

@@ -2,7 +2,7 @@
 ghost use Rattle.std.specs.Prelude.{◌<◌, ◌≡◌, ◌≤◌, ◌↔◌, ◌+◌, false, [], IfSome, IsNone, IsTrue, length, slice_index_or};
 ghost use Rattle.plain_state.specs.declared.slot.SlotId.{SlotId};
 ghost use Rattle.plain_state.specs.Lists.{times};
-ghost use Rattle.core_events.specs.Views.{allowed_makes};
+ghost use Rattle.core_promises.specs.core_events.Views.{allowed_makes};
 ghost use Rattle.domain_rule.specs.Views.{IsAlone, KnowsAll};
 ghost use Rattle.acquire_retire.specs.Calls.{IsOf};
 ghost use Rattle.acquire_retire.specs.Notes.{least_free};
@@ -10,8 +10,8 @@ ghost use Rattle.acquire_retire.specs.Seats.{HasBatch};
 
 use crate::domain::Domain;
 use crate::seat::Seat;
-use core_events::{Shape, SlotId};
-use plain_protocol::Protocol;
+use core_promises::{Shape, SlotId};
+use domain_rule::Protocol;
 
 impl<P: Protocol> Domain<P> {
     /// Whether the seat is seat 0, and every other one has left. It knows the whole core then.

@@ -1,14 +1,14 @@
 //! The call on the word of tickets. It is one atomic step.
 ghost use Rattle.std.specs.Prelude.{◌≡◌, slice_index_or};
-ghost use Rattle.core_events.specs.declared.act.Act.TheVariants as act;
-ghost use Rattle.core_events.specs.Steps.{May};
+ghost use Rattle.core_promises.specs.core_events.declared.act.Act.TheVariants as act;
+ghost use Rattle.core_promises.specs.core_events.Steps.{May};
 ghost use Rattle.acquire_retire.specs.Calls.{IsOf, IsReady, Steps};
 
 use crate::domain::Domain;
 use crate::seat::Seat;
-use core_events::{Act, Outcome};
-use core_functions::ticket_index;
-use plain_protocol::{Deed, Protocol};
+use core_promises::{Act, Outcome};
+use domain_rule::{Deed, Protocol};
+use dying_slots::ticket_index;
 use std::marker::Brand;
 
 /// How many makes a ticket grants, by its number.

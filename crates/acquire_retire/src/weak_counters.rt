@@ -1,16 +1,16 @@
 //! Calls on the weak words of slots, and the one that gives a slot back. Each is one atomic step.
 ghost use Rattle.std.specs.Prelude.{◌≡◌};
-ghost use Rattle.core_events.specs.declared.act.Act.TheVariants as act;
-ghost use Rattle.core_events.specs.Steps.{May};
+ghost use Rattle.core_promises.specs.core_events.declared.act.Act.TheVariants as act;
+ghost use Rattle.core_promises.specs.core_events.Steps.{May};
 ghost use Rattle.domain_rule.specs.Views.{HasCleared};
 ghost use Rattle.acquire_retire.specs.Calls.{IsOf, IsSameView, Steps, same_view};
 
 use crate::domain::Domain;
 use crate::hints::remember;
 use crate::seat::Seat;
-use core_events::{Act, Kind, Outcome, Phase, SlotId};
-use core_functions::{bit_alone, given_up};
-use plain_protocol::{Protocol, Still};
+use core_promises::{Act, Kind, Outcome, Phase, SlotId};
+use domain_rule::{Protocol, Still};
+use dying_slots::{bit_alone, given_up};
 use std::marker::Brand;
 
 impl<P: Protocol> Domain<P> {

@@ -16,9 +16,11 @@
 #![tactic(auto)]
 
 mod notes;
-#[cfg(test)]
-mod tests;
 mod words;
 
 pub use notes::Notes;
+pub use plain_state::{
+    Announced, EventPlace, HELP, Kind, MOST_BATCH, MOST_CELLS, MOST_SEATS, MOST_SLOTS,
+    MOST_WEAK_CELLS, SlotId, WORDS_OF_SEAT, WORDS_OF_SLOT, ZERO, has_help, value,
+};
 pub use words::{announced_as, decode, encode};

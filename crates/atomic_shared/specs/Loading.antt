@@ -1,8 +1,8 @@
 -- What a load of a strong reference asks of its place.
-use Rattle.core_events.specs.declared.shape.Shape.{Shape}
-use Rattle.core_events.specs.declared.view.CoreView.{CoreView}
-use Rattle.core_events.specs.Views.{IsReadable}
-use Rattle.counted_handles.specs.declared.place.Place.{Place}
+use Rattle.protected_loads.specs.core_events.declared.shape.Shape.{Shape}
+use Rattle.protected_loads.specs.core_events.declared.view.CoreView.{CoreView}
+use Rattle.protected_loads.specs.core_events.Views.{IsReadable}
+use Rattle.protected_loads.specs.counted_handles.declared.place.Place.{Place}
 use Rattle.atomic_shared.specs.Places.{strong_place}
 
 -- a cell is open to every seat that has it in range, field 0 or 1 of a slot to a seat that owns the

@@ -1,11 +1,11 @@
 -- Strong places, and the handles that go into them.
 use Rattle.std.specs.Prelude.{Option, Some, None}
-use Rattle.counted_handles.specs.Handles.{Handle}
-use Rattle.counted_handles.specs.declared.place.Place.{Place}
-use Rattle.counted_handles.specs.declared.place.Place.TheVariants as place
-use Rattle.plain_state.specs.declared.act.EventPlace.{EventPlace}
-use Rattle.plain_state.specs.declared.act.EventPlace.TheVariants.{Cell, Field}
-use Rattle.plain_state.specs.declared.slot.SlotId.{SlotId}
+use Rattle.protected_loads.specs.counted_handles.Handles.{Handle}
+use Rattle.protected_loads.specs.counted_handles.declared.place.Place.{Place}
+use Rattle.protected_loads.specs.counted_handles.declared.place.Place.TheVariants as place
+use Rattle.protected_loads.specs.plain_state.declared.act.EventPlace.{EventPlace}
+use Rattle.protected_loads.specs.plain_state.declared.act.EventPlace.TheVariants.{Cell, Field}
+use Rattle.protected_loads.specs.plain_state.declared.slot.SlotId.{SlotId}
 
 -- a strong place, among all places
 abbrev pub strong_place : Place → EventPlace

@@ -23,12 +23,11 @@
 mod loading;
 mod places;
 mod storing;
-#[cfg(test)]
-mod tests;
-#[cfg(test)]
-mod tests_storing;
 
-pub use counted_handles::{LoadError, Place, SlotId, Spent, Strong};
 pub use loading::{load, try_load};
 pub use places::event_place;
+pub use protected_loads::{
+    Deed, LoadError, PayloadKind, Place, Protocol, SlotId, Spent, drop_strong, record_of,
+};
+pub use retiring_stores::{Strong, collect, compare_exchange, exchange, leave};
 pub use storing::{Lost, store, try_replace};

@@ -2,8 +2,8 @@
 ghost use Rattle.std.specs.Prelude.{◌≡◌};
 ghost use Rattle.atomic_shared.specs.Places.{named, strong_place};
 
-use acquire_retire::{EventPlace, SlotId};
-use counted_handles::{Place, Strong};
+use protected_loads::{Place, SlotId};
+use retiring_stores::{EventPlace, Strong};
 
 /// The place, as the domain names it.
 pub fn event_place(place: Place) -> EventPlace

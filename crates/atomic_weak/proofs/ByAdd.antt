@@ -2,28 +2,28 @@
 use Rattle.std.proofs.Common.{ℕ, ◌<◌, List, [], ◌∷◌, ◌++◌, refl, sym, ◌∙◌, arith}
 use Rattle.std.specs.Prelude.{None}
 use Rattle.std.proofs.lemmas.Bool.Decides.{nat_tests}
-use Rattle.plain_state.specs.declared.act.PlainAct.{PlainAct}
-use Rattle.plain_state.specs.declared.slot.Kind.TheVariants.{Weak}
-use Rattle.plain_state.specs.declared.slot.SlotId.{SlotId}
-use Rattle.plain_state.specs.State.{Plain}
-use Rattle.plain_protocol.specs.Owns.{HasSlot, OwnPart}
-use Rattle.counter_word.specs.Words.{ZERO}
-use Rattle.core_events.specs.declared.act.Act.TheVariants as act
-use Rattle.core_events.specs.declared.outcome.Outcome.{Outcome}
-use Rattle.core_events.specs.declared.outcome.Outcome.TheVariants as outcome
-use Rattle.core_events.specs.declared.view.CoreView.{CoreView}
-use Rattle.core_events.specs.Shows.{show_seat}
-use Rattle.core_events.specs.Steps.{IsIdle}
-use Rattle.core_events.specs.Views.{Holds}
-use Rattle.core_law.proofs.Kit.{times_push}
-use Rattle.acquire_retire.specs.Calls.{IsSameView, Steps, same_view}
-use Rattle.acquire_retire.specs.Collecting.{move}
-use Rattle.acquire_retire.specs.Domains.{DomainState}
-use Rattle.acquire_retire.specs.Seats.{SeatState}
-use Rattle.control_word.specs.Calls.{with_add, with_strong}
-use Rattle.control_word.specs.Moves.{Becomes, KnowsStill}
-use Rattle.control_word.proofs.Becoming.{Comes, knows_after, one_step}
-use Rattle.control_word.proofs.Finding.{flagged, strong_word}
+use Rattle.protected_loads.specs.plain_state.declared.act.PlainAct.{PlainAct}
+use Rattle.protected_loads.specs.plain_state.declared.slot.Kind.TheVariants.{Weak}
+use Rattle.protected_loads.specs.plain_state.declared.slot.SlotId.{SlotId}
+use Rattle.protected_loads.specs.plain_state.State.{Plain}
+use Rattle.protected_loads.specs.plain_protocol.Owns.{HasSlot, OwnPart}
+use Rattle.protected_loads.specs.counter_word.Words.{ZERO}
+use Rattle.protected_loads.specs.core_events.declared.act.Act.TheVariants as act
+use Rattle.protected_loads.specs.core_events.declared.outcome.Outcome.{Outcome}
+use Rattle.protected_loads.specs.core_events.declared.outcome.Outcome.TheVariants as outcome
+use Rattle.protected_loads.specs.core_events.declared.view.CoreView.{CoreView}
+use Rattle.protected_loads.specs.core_events.Shows.{show_seat}
+use Rattle.protected_loads.specs.core_events.Steps.{IsIdle}
+use Rattle.protected_loads.specs.core_events.Views.{Holds}
+use Rattle.protected_loads.proofs.Below.core_law.Kit.{times_push}
+use Rattle.protected_loads.specs.acquire_retire.Calls.{IsSameView, Steps, same_view}
+use Rattle.protected_loads.specs.acquire_retire.Collecting.{move}
+use Rattle.protected_loads.specs.acquire_retire.Domains.{DomainState}
+use Rattle.protected_loads.specs.acquire_retire.Seats.{SeatState}
+use Rattle.protected_loads.specs.control_word.Calls.{with_add, with_strong}
+use Rattle.protected_loads.specs.control_word.Moves.{Becomes, KnowsStill}
+use Rattle.protected_loads.proofs.Below.control_word.Becoming.{Comes, knows_after, one_step}
+use Rattle.protected_loads.proofs.Below.control_word.Finding.{flagged, strong_word}
 use Rattle.atomic_weak.specs.Questions.{CanAsk, FindsAlive, FindsNone, closed_by, without_first}
 use Rattle.atomic_weak.proofs.Telling.{prepared_none, up_below}
 use Rattle.atomic_weak.proofs.Noted.{has_released, holds_weak}

@@ -2,30 +2,30 @@
 use Rattle.std.proofs.Common.{◌≡◌, ◌≢◌, ℕ, ◌<◌, List, [], ◌∷◌, ◌++◌, length, refl, ap, sym, ◌∙◌, subst, arith}
 use Rattle.std.specs.Prelude.{slice_index, Some}
 use Rattle.std.proofs.lemmas.List.{length-set, set_comm}
-use Rattle.plain_state.specs.declared.act.PlainAct.{PlainAct}
-use Rattle.plain_state.specs.declared.slot.Kind.TheVariants.{Weak, Disposal}
-use Rattle.plain_state.specs.declared.slot.SlotId.{SlotId}
-use Rattle.plain_state.specs.References.{strong_refs}
-use Rattle.plain_state.specs.State.{Plain}
-use Rattle.plain_protocol.specs.Owns.{HasSlot, OwnPart}
-use Rattle.counter_word.specs.Words.{value}
-use Rattle.core_events.specs.declared.act.Act.TheVariants as act
-use Rattle.core_events.specs.declared.outcome.Outcome.{Outcome}
-use Rattle.core_events.specs.declared.outcome.Outcome.TheVariants as outcome
-use Rattle.core_events.specs.declared.view.CoreView.{CoreView}
-use Rattle.core_events.specs.declared.view.Note.{Note}
-use Rattle.core_events.specs.declared.view.Note.TheVariants as note
-use Rattle.core_events.specs.Shows.{show_seat, shows}
-use Rattle.core_events.specs.Steps.{IsIdle, validated, with_note}
-use Rattle.core_events.specs.Views.{Holds, note_of, of_slot, slot_noted}
-use Rattle.core_events.specs.Words.{strong_at}
-use Rattle.acquire_retire.specs.Calls.{IsSameView, Steps, same_view}
-use Rattle.acquire_retire.specs.Collecting.{move}
-use Rattle.acquire_retire.specs.Domains.{DomainState}
-use Rattle.acquire_retire.specs.Seats.{SeatState}
-use Rattle.control_word.specs.Moves.{Becomes, KnowsStill}
-use Rattle.control_word.proofs.Becoming.{Comes, bare, comes_more, comes_one, knows_after, one_step}
-use Rattle.control_word.proofs.Finding.{strong_word}
+use Rattle.protected_loads.specs.plain_state.declared.act.PlainAct.{PlainAct}
+use Rattle.protected_loads.specs.plain_state.declared.slot.Kind.TheVariants.{Weak, Disposal}
+use Rattle.protected_loads.specs.plain_state.declared.slot.SlotId.{SlotId}
+use Rattle.protected_loads.specs.plain_state.References.{strong_refs}
+use Rattle.protected_loads.specs.plain_state.State.{Plain}
+use Rattle.protected_loads.specs.plain_protocol.Owns.{HasSlot, OwnPart}
+use Rattle.protected_loads.specs.counter_word.Words.{value}
+use Rattle.protected_loads.specs.core_events.declared.act.Act.TheVariants as act
+use Rattle.protected_loads.specs.core_events.declared.outcome.Outcome.{Outcome}
+use Rattle.protected_loads.specs.core_events.declared.outcome.Outcome.TheVariants as outcome
+use Rattle.protected_loads.specs.core_events.declared.view.CoreView.{CoreView}
+use Rattle.protected_loads.specs.core_events.declared.view.Note.{Note}
+use Rattle.protected_loads.specs.core_events.declared.view.Note.TheVariants as note
+use Rattle.protected_loads.specs.core_events.Shows.{show_seat, shows}
+use Rattle.protected_loads.specs.core_events.Steps.{IsIdle, validated, with_note}
+use Rattle.protected_loads.specs.core_events.Views.{Holds, note_of, of_slot, slot_noted}
+use Rattle.protected_loads.specs.core_events.Words.{strong_at}
+use Rattle.protected_loads.specs.acquire_retire.Calls.{IsSameView, Steps, same_view}
+use Rattle.protected_loads.specs.acquire_retire.Collecting.{move}
+use Rattle.protected_loads.specs.acquire_retire.Domains.{DomainState}
+use Rattle.protected_loads.specs.acquire_retire.Seats.{SeatState}
+use Rattle.protected_loads.specs.control_word.Moves.{Becomes, KnowsStill}
+use Rattle.protected_loads.proofs.Below.control_word.Becoming.{Comes, bare, comes_more, comes_one, knows_after, one_step}
+use Rattle.protected_loads.proofs.Below.control_word.Finding.{strong_word}
 use Rattle.protected_loads.proofs.Noting.{beside, second_stays, written, written_back}
 use Rattle.protected_loads.proofs.Telling.{four_notes}
 use Rattle.atomic_weak.specs.Questions.{CanAsk, FindsAlive, FindsNone, Prepares, closed_by, prepared_by, without_first}

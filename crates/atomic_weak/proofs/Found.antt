@@ -1,23 +1,23 @@
 -- What a seat has found once it has protected a slot and asked about it, and what is left to it.
 use Rattle.std.proofs.Common.{◌≡◌, ℕ, ◌<◌, List, [], ◌∷◌, ◌++◌, length, ap, sym, ◌∙◌, subst, arith, append_assoc}
 use Rattle.std.specs.Prelude.{slice_set, Option, Some, None}
-use Rattle.plain_state.specs.declared.act.EventPlace.{EventPlace}
-use Rattle.plain_state.specs.declared.act.PlainAct.{PlainAct}
-use Rattle.plain_state.specs.declared.slot.Kind.TheVariants.{Disposal}
-use Rattle.plain_state.specs.declared.slot.SlotId.{SlotId}
-use Rattle.plain_state.specs.State.{Plain}
-use Rattle.plain_protocol.specs.Owns.{OwnPart}
-use Rattle.core_events.specs.declared.outcome.Outcome.{Outcome}
-use Rattle.core_events.specs.declared.view.CoreView.{CoreView}
-use Rattle.core_events.specs.declared.view.Move.{Move}
-use Rattle.core_events.specs.declared.view.Note.TheVariants as note
-use Rattle.acquire_retire.specs.Calls.{IsSameView, same_view}
-use Rattle.acquire_retire.specs.Collecting.{move}
-use Rattle.acquire_retire.specs.Domains.{DomainState}
-use Rattle.acquire_retire.specs.Seats.{SeatState}
-use Rattle.control_word.specs.Moves.{KnowsStill}
-use Rattle.control_word.specs.Resting.{IsAtRest}
-use Rattle.control_word.proofs.Becoming.{bare, calling, walks_table}
+use Rattle.protected_loads.specs.plain_state.declared.act.EventPlace.{EventPlace}
+use Rattle.protected_loads.specs.plain_state.declared.act.PlainAct.{PlainAct}
+use Rattle.protected_loads.specs.plain_state.declared.slot.Kind.TheVariants.{Disposal}
+use Rattle.protected_loads.specs.plain_state.declared.slot.SlotId.{SlotId}
+use Rattle.protected_loads.specs.plain_state.State.{Plain}
+use Rattle.protected_loads.specs.plain_protocol.Owns.{OwnPart}
+use Rattle.protected_loads.specs.core_events.declared.outcome.Outcome.{Outcome}
+use Rattle.protected_loads.specs.core_events.declared.view.CoreView.{CoreView}
+use Rattle.protected_loads.specs.core_events.declared.view.Move.{Move}
+use Rattle.protected_loads.specs.core_events.declared.view.Note.TheVariants as note
+use Rattle.protected_loads.specs.acquire_retire.Calls.{IsSameView, same_view}
+use Rattle.protected_loads.specs.acquire_retire.Collecting.{move}
+use Rattle.protected_loads.specs.acquire_retire.Domains.{DomainState}
+use Rattle.protected_loads.specs.acquire_retire.Seats.{SeatState}
+use Rattle.protected_loads.specs.control_word.Moves.{KnowsStill}
+use Rattle.protected_loads.specs.control_word.Resting.{IsAtRest}
+use Rattle.protected_loads.proofs.Below.control_word.Becoming.{bare, calling, walks_table}
 use Rattle.protected_loads.specs.Loads.{protected_by}
 use Rattle.protected_loads.proofs.Noting.{all_settled, beside, rests_noted, rests_still}
 use Rattle.atomic_weak.specs.Questions.{Answers, Asks, CanUse, FindsAlive, FindsNone, asked_by, prepared_by, with_guarded, with_none}

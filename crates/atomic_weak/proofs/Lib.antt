@@ -1,5 +1,5 @@
+pub mod Below
 pub mod Named
-pub mod Made
 pub mod Noted
 pub mod Releasing
 pub mod Released

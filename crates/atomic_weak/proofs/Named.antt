@@ -1,13 +1,13 @@
 -- What is told of a place and a handle is told of them by their names in the domain.
 use Rattle.std.proofs.Common.{◌≡◌, ap, refl, sym, subst, ◌∙◌}
 use Rattle.std.specs.Prelude.{Option}
-use Rattle.counted_handles.specs.declared.place.WeakPlace.{WeakPlace}
-use Rattle.counted_handles.specs.declared.place.WeakPlace.TheVariants as place
-use Rattle.plain_state.specs.declared.act.EventPlace.{EventPlace}
-use Rattle.plain_state.specs.declared.slot.Kind.{Kind}
-use Rattle.plain_state.specs.declared.slot.Kind.TheVariants.{Weak}
-use Rattle.plain_state.specs.declared.slot.SlotId.{SlotId}
-use Rattle.plain_state.specs.Places.{place_kind}
+use Rattle.protected_loads.specs.counted_handles.declared.place.WeakPlace.{WeakPlace}
+use Rattle.protected_loads.specs.counted_handles.declared.place.WeakPlace.TheVariants as place
+use Rattle.protected_loads.specs.plain_state.declared.act.EventPlace.{EventPlace}
+use Rattle.protected_loads.specs.plain_state.declared.slot.Kind.{Kind}
+use Rattle.protected_loads.specs.plain_state.declared.slot.Kind.TheVariants.{Weak}
+use Rattle.protected_loads.specs.plain_state.declared.slot.SlotId.{SlotId}
+use Rattle.protected_loads.specs.plain_state.Places.{place_kind}
 use Rattle.atomic_weak.specs.Places.{weak_place}
 
 pub weak_kind : (p : WeakPlace) → place_kind (weak_place p) ≡ Weak

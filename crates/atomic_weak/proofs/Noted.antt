@@ -4,19 +4,19 @@ use Rattle.std.specs.Prelude.{slice_index_or, slice_set}
 use Rattle.std.proofs.lemmas.Bool.{cases_lt}
 use Rattle.std.proofs.lemmas.Bool.Decides.{nat_tests}
 use Rattle.std.proofs.lemmas.List.{get_or_past}
-use Rattle.plain_state.specs.declared.slot.Kind.{Kind}
-use Rattle.plain_state.specs.declared.slot.Kind.TheVariants.{Strong, Weak, Disposal}
-use Rattle.plain_state.specs.declared.slot.SlotId.{SlotId}
-use Rattle.plain_state.proofs.Kit.{entry_loses}
-use Rattle.plain_protocol.specs.Owns.{HasSlot}
-use Rattle.core_events.specs.declared.view.CoreView.{CoreView}
-use Rattle.core_events.specs.declared.view.Note.{Note}
-use Rattle.core_events.specs.declared.view.Note.TheVariants as note
-use Rattle.core_events.specs.Shows.{show_seat}
-use Rattle.core_events.specs.Steps.{with_note}
-use Rattle.core_events.specs.Views.{Holds, note_of, valid_of}
-use Rattle.core_functions.proofs.Snapshots.{snapshot_at}
-use Rattle.core_law.proofs.Losing.{valid_loses}
+use Rattle.protected_loads.specs.plain_state.declared.slot.Kind.{Kind}
+use Rattle.protected_loads.specs.plain_state.declared.slot.Kind.TheVariants.{Strong, Weak, Disposal}
+use Rattle.protected_loads.specs.plain_state.declared.slot.SlotId.{SlotId}
+use Rattle.protected_loads.proofs.Below.plain_state.Kit.{entry_loses}
+use Rattle.protected_loads.specs.plain_protocol.Owns.{HasSlot}
+use Rattle.protected_loads.specs.core_events.declared.view.CoreView.{CoreView}
+use Rattle.protected_loads.specs.core_events.declared.view.Note.{Note}
+use Rattle.protected_loads.specs.core_events.declared.view.Note.TheVariants as note
+use Rattle.protected_loads.specs.core_events.Shows.{show_seat}
+use Rattle.protected_loads.specs.core_events.Steps.{with_note}
+use Rattle.protected_loads.specs.core_events.Views.{Holds, note_of, valid_of}
+use Rattle.protected_loads.proofs.Below.core_functions.Snapshots.{snapshot_at}
+use Rattle.protected_loads.proofs.Below.core_law.Losing.{valid_loses}
 use Rattle.protected_loads.proofs.Noting.{announced_not_valid, announced_same, more_has, same_has, snapshot_gains}
 
 -- a note that stands for something is there

@@ -1,21 +1,21 @@
 -- The release of a word that stood for a weak snapshot.
 use Rattle.std.proofs.Common.{◌≡◌, ℕ, ◌<◌, List, [], ◌∷◌, length, refl, ap, ◌∙◌, arith}
 use Rattle.std.specs.Prelude.{slice_set}
-use Rattle.plain_state.specs.declared.slot.Kind.TheVariants.{Disposal}
-use Rattle.plain_state.specs.declared.slot.SlotId.{SlotId}
-use Rattle.core_events.specs.declared.act.Act.TheVariants as act
-use Rattle.core_events.specs.declared.outcome.Outcome.{Outcome}
-use Rattle.core_events.specs.declared.outcome.Outcome.TheVariants as outcome
-use Rattle.core_events.specs.declared.view.Note.TheVariants as note
-use Rattle.core_events.specs.Steps.{with_note}
-use Rattle.core_events.specs.Views.{note_of}
-use Rattle.acquire_retire.specs.Calls.{IsSameView, Steps, same_view}
-use Rattle.acquire_retire.specs.Collecting.{move}
-use Rattle.acquire_retire.specs.Domains.{DomainState}
-use Rattle.acquire_retire.specs.Seats.{SeatState}
-use Rattle.control_word.specs.Moves.{Becomes, KnowsStill}
-use Rattle.control_word.specs.Resting.{IsAtRest}
-use Rattle.control_word.proofs.Becoming.{Comes, calling}
+use Rattle.protected_loads.specs.plain_state.declared.slot.Kind.TheVariants.{Disposal}
+use Rattle.protected_loads.specs.plain_state.declared.slot.SlotId.{SlotId}
+use Rattle.protected_loads.specs.core_events.declared.act.Act.TheVariants as act
+use Rattle.protected_loads.specs.core_events.declared.outcome.Outcome.{Outcome}
+use Rattle.protected_loads.specs.core_events.declared.outcome.Outcome.TheVariants as outcome
+use Rattle.protected_loads.specs.core_events.declared.view.Note.TheVariants as note
+use Rattle.protected_loads.specs.core_events.Steps.{with_note}
+use Rattle.protected_loads.specs.core_events.Views.{note_of}
+use Rattle.protected_loads.specs.acquire_retire.Calls.{IsSameView, Steps, same_view}
+use Rattle.protected_loads.specs.acquire_retire.Collecting.{move}
+use Rattle.protected_loads.specs.acquire_retire.Domains.{DomainState}
+use Rattle.protected_loads.specs.acquire_retire.Seats.{SeatState}
+use Rattle.protected_loads.specs.control_word.Moves.{Becomes, KnowsStill}
+use Rattle.protected_loads.specs.control_word.Resting.{IsAtRest}
+use Rattle.protected_loads.proofs.Below.control_word.Becoming.{Comes, calling}
 use Rattle.protected_loads.proofs.Noting.{all_settled, beside, rests_noted}
 use Rattle.atomic_weak.proofs.Noted.{has_released, noted_there}
 use Rattle.atomic_weak.proofs.Releasing.{releases}

@@ -1,8 +1,8 @@
 -- What a load of a weak reference asks of its place.
-use Rattle.core_events.specs.declared.shape.Shape.{Shape}
-use Rattle.core_events.specs.declared.view.CoreView.{CoreView}
-use Rattle.core_events.specs.Views.{IsReadable}
-use Rattle.counted_handles.specs.declared.place.WeakPlace.{WeakPlace}
+use Rattle.protected_loads.specs.core_events.declared.shape.Shape.{Shape}
+use Rattle.protected_loads.specs.core_events.declared.view.CoreView.{CoreView}
+use Rattle.protected_loads.specs.core_events.Views.{IsReadable}
+use Rattle.protected_loads.specs.counted_handles.declared.place.WeakPlace.{WeakPlace}
 use Rattle.atomic_weak.specs.Places.{weak_place}
 
 -- a weak cell is open to every seat that has it in range, the weak field of a slot to a seat that

@@ -1,11 +1,11 @@
 -- Weak places, and the handles that go into them.
 use Rattle.std.specs.Prelude.{Option, Some, None}
-use Rattle.counted_handles.specs.Handles.{Handle}
-use Rattle.counted_handles.specs.declared.place.WeakPlace.{WeakPlace}
-use Rattle.counted_handles.specs.declared.place.WeakPlace.TheVariants as place
-use Rattle.plain_state.specs.declared.act.EventPlace.{EventPlace}
-use Rattle.plain_state.specs.declared.act.EventPlace.TheVariants.{WeakCell, WeakField}
-use Rattle.plain_state.specs.declared.slot.SlotId.{SlotId}
+use Rattle.protected_loads.specs.counted_handles.Handles.{Handle}
+use Rattle.protected_loads.specs.counted_handles.declared.place.WeakPlace.{WeakPlace}
+use Rattle.protected_loads.specs.counted_handles.declared.place.WeakPlace.TheVariants as place
+use Rattle.protected_loads.specs.plain_state.declared.act.EventPlace.{EventPlace}
+use Rattle.protected_loads.specs.plain_state.declared.act.EventPlace.TheVariants.{WeakCell, WeakField}
+use Rattle.protected_loads.specs.plain_state.declared.slot.SlotId.{SlotId}
 
 -- a weak place, among all places
 abbrev pub weak_place : WeakPlace → EventPlace

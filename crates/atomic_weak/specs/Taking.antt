@@ -1,25 +1,25 @@
 -- How a seat comes under a weak snapshot of what a weak place holds: it protects a slot by its
 -- first word, and asks whether the object lives.
 use Rattle.std.specs.Prelude.{ℕ, ◌≡◌, List, ◌++◌, Option}
-use Rattle.plain_state.specs.declared.act.EventPlace.{EventPlace}
-use Rattle.plain_state.specs.declared.act.PlainAct.{PlainAct}
-use Rattle.plain_state.specs.declared.slot.Kind.TheVariants.{Disposal}
-use Rattle.plain_state.specs.declared.slot.SlotId.{SlotId}
-use Rattle.plain_state.specs.State.{Plain, slot_at}
-use Rattle.plain_protocol.specs.Owns.{OwnPart, object_of}
-use Rattle.core_events.specs.declared.act.Act.TheVariants as act
-use Rattle.core_events.specs.declared.view.CoreView.{CoreView}
-use Rattle.core_events.specs.declared.view.Note.{Note}
-use Rattle.core_events.specs.declared.view.Note.TheVariants as note
-use Rattle.core_events.specs.Shows.{shows}
-use Rattle.core_events.specs.Views.{Holds}
-use Rattle.domain_rule.specs.Views.{object_in}
-use Rattle.acquire_retire.specs.Calls.{IsReady, IsSameView, same_view}
-use Rattle.acquire_retire.specs.Domains.{DomainState}
-use Rattle.acquire_retire.specs.Notes.{least_free}
-use Rattle.acquire_retire.specs.Seats.{SeatState}
-use Rattle.control_word.specs.Moves.{last_core}
-use Rattle.control_word.specs.Resting.{noted}
+use Rattle.protected_loads.specs.plain_state.declared.act.EventPlace.{EventPlace}
+use Rattle.protected_loads.specs.plain_state.declared.act.PlainAct.{PlainAct}
+use Rattle.protected_loads.specs.plain_state.declared.slot.Kind.TheVariants.{Disposal}
+use Rattle.protected_loads.specs.plain_state.declared.slot.SlotId.{SlotId}
+use Rattle.protected_loads.specs.plain_state.State.{Plain, slot_at}
+use Rattle.protected_loads.specs.plain_protocol.Owns.{OwnPart, object_of}
+use Rattle.protected_loads.specs.core_events.declared.act.Act.TheVariants as act
+use Rattle.protected_loads.specs.core_events.declared.view.CoreView.{CoreView}
+use Rattle.protected_loads.specs.core_events.declared.view.Note.{Note}
+use Rattle.protected_loads.specs.core_events.declared.view.Note.TheVariants as note
+use Rattle.protected_loads.specs.core_events.Shows.{shows}
+use Rattle.protected_loads.specs.core_events.Views.{Holds}
+use Rattle.retiring_stores.specs.domain_rule.Views.{object_in}
+use Rattle.protected_loads.specs.acquire_retire.Calls.{IsReady, IsSameView, same_view}
+use Rattle.protected_loads.specs.acquire_retire.Domains.{DomainState}
+use Rattle.protected_loads.specs.acquire_retire.Notes.{least_free}
+use Rattle.protected_loads.specs.acquire_retire.Seats.{SeatState}
+use Rattle.protected_loads.specs.control_word.Moves.{last_core}
+use Rattle.protected_loads.specs.control_word.Resting.{noted}
 use Rattle.protected_loads.specs.Loads.{FindsNull, Protects, protected_by}
 use Rattle.atomic_weak.specs.Questions.{FindsAlive, FindsNone, IsReadyFor, alive_by, none_by, with_guarded, with_none}
 use Rattle.atomic_weak.specs.WeakSnapshots.{IsUnder}

@@ -33,14 +33,14 @@ mod loading;
 mod places;
 mod snapshots;
 mod storing;
-#[cfg(test)]
-mod tests;
-#[cfg(test)]
-mod tests_snapshots;
 mod weak_snapshot;
 
-pub use counted_handles::{LoadError, SlotId, Spent, Weak, WeakPlace};
 pub use loading::{load_weak, try_load_weak};
+pub use protected_loads::{
+    Deed, Domain, LoadError, OutOfMemory, Protocol, Seat, SlotId, Spent, UpgradeError, Weak,
+    WeakPlace, acquire_at_last, copy_strong, drop_strong, drop_weak, upgrade, weaken,
+};
+pub use retiring_stores::{EventPlace, Outcome, Strong, collect};
 pub use snapshots::{WeakSnap, try_weak_snapshot};
 pub use storing::{LostWeak, store_weak, try_replace_weak};
 pub use weak_snapshot::{WeakSnapshot, end_weak, weak_counted};

@@ -1,11 +1,11 @@
 //! A weak reference to what a weak place holds.
 ghost use Rattle.std.specs.Prelude.{ℕ, ◌≡◌, ◌<◌, ◌↔◌, Err, IfOk, IfSome, IsErr, OnErr};
-ghost use Rattle.plain_state.specs.Lists.{times};
-ghost use Rattle.core_events.specs.Steps.{HasRoom};
-ghost use Rattle.core_events.specs.Words.{slot_in};
-ghost use Rattle.counted_handles.specs.declared.refusal.LoadError.TheVariants as refused;
-ghost use Rattle.control_word.specs.Moves.{KnowsStill};
-ghost use Rattle.control_word.specs.Resting.{IsAtRest, IsSpent};
+ghost use Rattle.protected_loads.specs.plain_state.Lists.{times};
+ghost use Rattle.protected_loads.specs.core_events.Steps.{HasRoom};
+ghost use Rattle.protected_loads.specs.core_events.Words.{slot_in};
+ghost use Rattle.protected_loads.specs.counted_handles.declared.refusal.LoadError.TheVariants as refused;
+ghost use Rattle.protected_loads.specs.control_word.Moves.{KnowsStill};
+ghost use Rattle.protected_loads.specs.control_word.Resting.{IsAtRest, IsSpent};
 ghost use Rattle.protected_loads.specs.Loads.{Misses};
 ghost use Rattle.protected_loads.specs.References.{IsReadyToLoad, Loads};
 ghost use Rattle.protected_loads.specs.Retries.{IsReadyToRetry, LoadsAtLast};
@@ -13,9 +13,7 @@ ghost use Rattle.atomic_weak.specs.Loading.{CanLoad};
 ghost use Rattle.atomic_weak.specs.Places.{named, weak_place};
 
 use crate::places::event_place;
-use acquire_retire::{Domain, Seat};
-use counted_handles::{LoadError, Spent, Weak, WeakPlace};
-use plain_protocol::{Deed, Protocol};
+use protected_loads::{Deed, Domain, LoadError, Protocol, Seat, Spent, Weak, WeakPlace};
 use std::sync::Wait;
 
 /// A weak reference to what the place holds. `Spent` comes first, exactly where the seat has used all adds of its

@@ -2,8 +2,8 @@
 ghost use Rattle.std.specs.Prelude.{◌≡◌};
 ghost use Rattle.atomic_weak.specs.Places.{named, weak_place};
 
-use acquire_retire::{EventPlace, SlotId};
-use counted_handles::{Weak, WeakPlace};
+use protected_loads::{SlotId, Weak, WeakPlace};
+use retiring_stores::EventPlace;
 
 /// The place, as the domain names it.
 pub(crate) fn event_place(place: WeakPlace) -> EventPlace

@@ -10,13 +10,13 @@
 //! Where the reader has no word left it adds to the count instead. An add that finds no zero flag counts, also where it
 //! finds 0: whoever is to finish the object finds the count then, and lets it live.
 ghost use Rattle.std.specs.Prelude.{ℕ, ◌≡◌, ◌↔◌, Err, IfOk, IsErr, None, OnErr, Some};
-ghost use Rattle.core_events.specs.Steps.{HasAdd, HasRoom};
-ghost use Rattle.core_events.specs.Words.{slot_in};
-ghost use Rattle.counted_handles.specs.declared.refusal.LoadError.TheVariants as refused;
-ghost use Rattle.acquire_retire.specs.Calls.{IsOf, IsSameView, same_view};
-ghost use Rattle.acquire_retire.specs.Notes.{least_free};
-ghost use Rattle.control_word.specs.Moves.{KnowsStill};
-ghost use Rattle.control_word.specs.Resting.{IsAtRest};
+ghost use Rattle.protected_loads.specs.core_events.Steps.{HasAdd, HasRoom};
+ghost use Rattle.protected_loads.specs.core_events.Words.{slot_in};
+ghost use Rattle.protected_loads.specs.counted_handles.declared.refusal.LoadError.TheVariants as refused;
+ghost use Rattle.protected_loads.specs.acquire_retire.Calls.{IsOf, IsSameView, same_view};
+ghost use Rattle.protected_loads.specs.acquire_retire.Notes.{least_free};
+ghost use Rattle.protected_loads.specs.control_word.Moves.{KnowsStill};
+ghost use Rattle.protected_loads.specs.control_word.Resting.{IsAtRest};
 ghost use Rattle.protected_loads.specs.Loads.{Misses};
 ghost use Rattle.atomic_weak.specs.Loading.{CanLoad};
 ghost use Rattle.atomic_weak.specs.Places.{weak_place};
@@ -26,11 +26,11 @@ ghost use Rattle.atomic_weak.specs.WeakSnapshots.{CanTakeNone, StaysUnder};
 
 use crate::places::event_place;
 use crate::weak_snapshot::WeakSnapshot;
-use acquire_retire::{Domain, Outcome, Seat, SlotId};
-use counted_handles::{LoadError, Spent, WeakPlace};
-use plain_protocol::{Deed, Protocol, Still};
-use plain_state::Kind;
-use protected_loads::{acquire, in_words};
+use protected_loads::{
+    Deed, Domain, Kind, LoadError, Protocol, Seat, SlotId, Spent, Still, WeakPlace, acquire,
+    in_words,
+};
+use retiring_stores::Outcome;
 
 /// What a try to take a weak snapshot found.
 #[derive(Debug, Drop)]

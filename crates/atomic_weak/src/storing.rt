@@ -1,21 +1,18 @@
 //! Weak references go into places, and what stood there is retired.
 ghost use Rattle.std.specs.Prelude.{◌≡◌, IfErr, IfOk};
-ghost use Rattle.plain_state.specs.declared.slot.Kind.TheVariants as kind;
-ghost use Rattle.core_events.specs.declared.act.Act.TheVariants as act;
-ghost use Rattle.core_events.specs.Steps.{CanGive, HasRoom, IsContent, without_given};
-ghost use Rattle.core_events.specs.Views.{IsOpen};
-ghost use Rattle.acquire_retire.specs.Calls.{IsReady};
-ghost use Rattle.control_word.specs.Moves.{KnowsStill};
-ghost use Rattle.control_word.specs.Resting.{IsAtRest};
+ghost use Rattle.protected_loads.specs.plain_state.declared.slot.Kind.TheVariants as kind;
+ghost use Rattle.protected_loads.specs.core_events.declared.act.Act.TheVariants as act;
+ghost use Rattle.protected_loads.specs.core_events.Steps.{CanGive, HasRoom, IsContent, without_given};
+ghost use Rattle.protected_loads.specs.core_events.Views.{IsOpen};
+ghost use Rattle.protected_loads.specs.acquire_retire.Calls.{IsReady};
+ghost use Rattle.protected_loads.specs.control_word.Moves.{KnowsStill};
+ghost use Rattle.protected_loads.specs.control_word.Resting.{IsAtRest};
 ghost use Rattle.retiring_stores.specs.Exchanging.{LosesTo, Replaces, Stores};
 ghost use Rattle.retiring_stores.specs.Scanning.{IsBelow};
 ghost use Rattle.atomic_weak.specs.Places.{named, weak_place};
 
 use crate::places::{event_place, slot_of};
-use acquire_retire::{Domain, Seat, SlotId};
-use core_functions::held_as;
-use counted_handles::{Weak, WeakPlace};
-use plain_protocol::{Deed, Protocol};
+use protected_loads::{Deed, Domain, Protocol, Seat, SlotId, Weak, WeakPlace, held_as};
 use retiring_stores::{compare_exchange, exchange};
 
 /// A place held something else than what was expected.

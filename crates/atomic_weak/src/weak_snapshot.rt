@@ -1,15 +1,13 @@
 //! A weak snapshot in hand, and its end.
 ghost use Rattle.std.specs.Prelude.{◌≡◌, ◌↔◌, IsTrue, None};
-ghost use Rattle.core_events.specs.Steps.{HasRoom};
-ghost use Rattle.control_word.specs.Moves.{KnowsStill};
-ghost use Rattle.control_word.specs.Resting.{IsAtRest};
+ghost use Rattle.protected_loads.specs.core_events.Steps.{HasRoom};
+ghost use Rattle.protected_loads.specs.control_word.Moves.{KnowsStill};
+ghost use Rattle.protected_loads.specs.control_word.Resting.{IsAtRest};
 ghost use Rattle.atomic_weak.specs.Ending.{Ends, KeepsOthers, without_snapshot};
 ghost use Rattle.atomic_weak.specs.WeakSnapshots.{IsUnder, notes_without};
 
-use acquire_retire::{Domain, Seat, SlotId};
-use control_word::drop_strong;
-use counted_handles::Strong;
-use plain_protocol::Protocol;
+use protected_loads::{Domain, Protocol, Seat, SlotId, drop_strong};
+use retiring_stores::Strong;
 use std::marker::Model;
 
 /// A weak snapshot. A call that takes it asks that the seat is under it.

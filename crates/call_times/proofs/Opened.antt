@@ -1,15 +1,15 @@
 -- The seats of a domain with a directory that was just opened are free to intern.
 use Rattle.std.proofs.Common.{ℕ, ◌+◌, ◌<◌, ◌≤◌, refl, subst, sym, arith}
 use Rattle.std.specs.Prelude.{All}
-use Rattle.core_events.specs.Runs.{IsShape}
-use Rattle.core_law.proofs.Each.{get_each, length_each}
-use Rattle.acquire_retire.specs.Domains.{DomainState}
-use Rattle.acquire_retire.specs.Openings.{begun_seat, opened_seats}
-use Rattle.acquire_retire.specs.Seats.{SeatState}
-use Rattle.control_word.proofs.Beginning.{all_at_rest}
-use Rattle.directory_law.specs.declared.view.View.{View}
-use Rattle.directory_protocol.specs.declared.law.DirectoryLaw.{DirectoryLaw}
-use Rattle.text_reading.specs.Reading.{HasTwoFree}
+use Rattle.turn_loops.specs.core_events.Runs.{IsShape}
+use Rattle.turn_loops.proofs.Below.core_law.Each.{get_each, length_each}
+use Rattle.turn_loops.specs.acquire_retire.Domains.{DomainState}
+use Rattle.turn_loops.specs.acquire_retire.Openings.{begun_seat, opened_seats}
+use Rattle.turn_loops.specs.acquire_retire.Seats.{SeatState}
+use Rattle.turn_loops.proofs.Below.control_word.Beginning.{all_at_rest}
+use Rattle.weak_intern.specs.directory_law.declared.view.View.{View}
+use Rattle.weak_intern.specs.directory_protocol.declared.law.DirectoryLaw.{DirectoryLaw}
+use Rattle.weak_intern.specs.text_reading.Reading.{HasTwoFree}
 use Rattle.call_times.specs.Interning.{HasLeft, IsFreeToIntern}
 
 module _ (first : ℕ → View) (few : (n : ℕ) → (first n).used + 0 ≤ (first n).quota)

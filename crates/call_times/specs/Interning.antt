@@ -1,13 +1,13 @@
 -- A seat that interns texts of a directory, and the domain that lets it.
 use Rattle.std.specs.Prelude.{ℕ, ◌≡◌, ◌+◌, ◌<◌, ◌≤◌, slice_index_or}
-use Rattle.core_events.specs.Steps.{HasRoom}
-use Rattle.acquire_retire.specs.Domains.{DomainState}
-use Rattle.acquire_retire.specs.Seats.{SeatState}
-use Rattle.control_word.specs.Resting.{IsAtRest}
-use Rattle.directory_law.specs.declared.view.GivenTo.TheVariants.{Tickets}
-use Rattle.directory_law.specs.declared.view.View.{View}
-use Rattle.directory_protocol.specs.declared.law.DirectoryLaw.{DirectoryLaw}
-use Rattle.text_reading.specs.Reading.{HasTwoFree}
+use Rattle.turn_loops.specs.core_events.Steps.{HasRoom}
+use Rattle.turn_loops.specs.acquire_retire.Domains.{DomainState}
+use Rattle.turn_loops.specs.acquire_retire.Seats.{SeatState}
+use Rattle.turn_loops.specs.control_word.Resting.{IsAtRest}
+use Rattle.weak_intern.specs.directory_law.declared.view.GivenTo.TheVariants.{Tickets}
+use Rattle.weak_intern.specs.directory_law.declared.view.View.{View}
+use Rattle.weak_intern.specs.directory_protocol.declared.law.DirectoryLaw.{DirectoryLaw}
+use Rattle.weak_intern.specs.text_reading.Reading.{HasTwoFree}
 
 -- it is in no call, has room, and two announcement words that stand for nothing
 pub record IsReadyToIntern (d : DomainState DirectoryLaw) (s : SeatState View) : Type 0 where

@@ -4,11 +4,9 @@ ghost use Rattle.call_times.specs.Interning.{HasGrants, IsFreeToIntern};
 ghost use Rattle.turn_loops.specs.Placings.{AreOfThreads, AreSeats};
 
 use crate::fault::Fault;
-use acquire_retire::{Domain, Quota, Seat, Shape, open_domain};
-use directory_protocol::DirectoryLaw;
-use out_of_memory::OutOfMemory;
 use std::alloc::Global;
-use turn_loops::{Placing, take_placed};
+use turn_loops::{Domain, OutOfMemory, Placing, Quota, Seat, Shape, open_domain, take_placed};
+use weak_intern::DirectoryLaw;
 
 /// How many texts a thread interns.
 pub const TURNS: u32 = 250_000;

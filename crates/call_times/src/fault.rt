@@ -1,9 +1,8 @@
 //! Why no times could be taken.
-use acquire_retire::OpenError;
-use out_of_memory::OutOfMemory;
-use slot_store::MakeError;
 use std::io;
 use thiserror::Error;
+use turn_loops::{OpenError, OutOfMemory};
+use weak_intern::MakeError;
 
 /// Why no times could be taken.
 #[derive(Debug, Error, Drop)]

@@ -1,22 +1,19 @@
 //! Turns that intern texts, and their time.
 ghost use Rattle.std.specs.Prelude.{◌≡◌, ◌<◌, ◌≤◌, IfSome};
-ghost use Rattle.directory_calls.specs.Directories.{IsOver};
+ghost use Rattle.weak_intern.specs.directory_calls.Directories.{IsOver};
 ghost use Rattle.call_times.specs.Interning.{HasGrants, HasLeft, IsFreeToIntern, IsReadyToIntern, Spends};
 
 use crate::clock::Tenths;
 use crate::directory::{OpenedDirectory, TURNS, open_directory};
 use crate::fault::Fault;
 use crate::jobs::in_threads;
-use acquire_retire::{Domain, Seat};
-use directory_calls::Directory;
-use directory_protocol::DirectoryLaw;
 use std::alloc::Global;
 use std::rt::Clock;
 use std::sync::Wait;
 use std::thread::Threads;
 use std::time::Instant;
-use turn_loops::Placing;
-use weak_intern::{draw, intern};
+use turn_loops::{Domain, Placing, Seat};
+use weak_intern::{Directory, DirectoryLaw, draw, intern};
 
 /// How many texts there are: w0, w1 and so on.
 const TEXTS: u64 = 5000;

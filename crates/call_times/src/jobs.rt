@@ -3,10 +3,10 @@ ghost use Rattle.std.specs.Prelude.{ℕ, ◌≡◌, ◌<◌, ◌++◌, [], ◌�
 ghost use Rattle.std.specs.Prelude.{None, Some, IfOk, IfSome, OnOk};
 ghost use Rattle.std.specs.Fork.{AcceptsJobs};
 
-use out_of_memory::OutOfMemory;
 use std::alloc::Global;
 use std::thread;
 use std::thread::Threads;
+use turn_loops::OutOfMemory;
 
 /// Calls `turns` with each seat, each in a thread of its own where one can be made. The thread of the caller takes no
 /// seat: it only waits, so its processor is free for one of the others. Once it answers, each call has returned.

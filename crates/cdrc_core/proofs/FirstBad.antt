@@ -1,10 +1,10 @@
 -- The first field that is out of its range, as an error passes it on.
 use Rattle.std.proofs.Common.{◌≡◌, ◌∙◌, Result, Err, ap}
 use Rattle.std.specs.Prelude.{◌↔◌}
-use Rattle.core_events.specs.declared.shape.Shape.{Shape}
-use Rattle.core_events.specs.Views.{Terms}
-use Rattle.core_events.specs.declared.shape.ShapeField.{ShapeField}
-use Rattle.core_functions.specs.Fields.{IsFirstBad}
+use Rattle.core_law.specs.core_events.declared.shape.Shape.{Shape}
+use Rattle.core_law.specs.core_events.Views.{Terms}
+use Rattle.core_law.specs.core_events.declared.shape.ShapeField.{ShapeField}
+use Rattle.core_views.specs.core_functions.Fields.{IsFirstBad}
 use Rattle.cdrc_core.specs.declared.errors.StartError.{StartError}
 use Rattle.cdrc_core.specs.declared.errors.StartError.TheVariants.{BadShape}
 use Rattle.cdrc_core.specs.declared.errors.ReplayError.{ReplayError}

@@ -1,15 +1,15 @@
 -- The word that an event is on is there, and a place holds null or a slot that is there.
 use Rattle.std.proofs.Common.{inr, ◌<◌, ℕ, length, arith}
 use Rattle.std.specs.Prelude.{slice_index}
-use Rattle.plain_state.specs.declared.slot.SlotId.{SlotId}
-use Rattle.core_events.specs.declared.act.Act.{Act}
-use Rattle.core_events.specs.declared.act.Act.TheVariants as act
-use Rattle.core_events.specs.declared.shape.Shape.{Shape}
-use Rattle.core_events.specs.declared.view.CoreView.{CoreView}
-use Rattle.core_events.specs.Words.{word_count}
-use Rattle.core_events.specs.Views.{no_view}
-use Rattle.core_events.specs.Steps.{May, place}
-use Rattle.core_events.specs.Runs.{Core, view_at}
+use Rattle.core_law.specs.plain_state.declared.slot.SlotId.{SlotId}
+use Rattle.core_law.specs.core_events.declared.act.Act.{Act}
+use Rattle.core_law.specs.core_events.declared.act.Act.TheVariants as act
+use Rattle.core_law.specs.core_events.declared.shape.Shape.{Shape}
+use Rattle.core_law.specs.core_events.declared.view.CoreView.{CoreView}
+use Rattle.core_law.specs.core_events.Words.{word_count}
+use Rattle.core_law.specs.core_events.Views.{no_view}
+use Rattle.core_law.specs.core_events.Steps.{May, place}
+use Rattle.core_law.specs.core_events.Runs.{Core, view_at}
 use Rattle.core_law.specs.Sound.{Sound}
 use Rattle.core_law.proofs.InRange.{content_in, open_in_range, place_in, put_in_range, readable_in_range}
 use Rattle.core_law.proofs.Steady.{named_in_range}

@@ -3,14 +3,14 @@ use Rattle.std.proofs.Common.{◌≡◌, ◌≢◌, ◌∙◌, ℕ, ◌+◌, ◌
 use Rattle.std.specs.Prelude.{if◌then◌else◌, OnOk}
 use Rattle.std.proofs.lemmas.List.{get_or_append_left, get_or-append_right, get_or_default, set-append_left, set-append_right, set-get_or}
 use Rattle.std.proofs.Math.Nat.{mul-le-mul_left}
-use Rattle.core_events.specs.declared.act.Act.TheVariants as act
-use Rattle.core_events.specs.declared.outcome.Outcome.TheVariants as outcome
-use Rattle.core_events.specs.declared.shape.Shape.{Shape}
-use Rattle.core_events.specs.declared.view.CoreView.{CoreView}
-use Rattle.core_events.specs.Views.{no_view, room_of}
-use Rattle.core_events.specs.Steps.{noted}
-use Rattle.core_events.specs.Runs.{Core, Enabled, after, left_behind, taken_over, view_at, views_after}
-use Rattle.core_events.specs.Good.{staying_room}
+use Rattle.core_law.specs.core_events.declared.act.Act.TheVariants as act
+use Rattle.core_law.specs.core_events.declared.outcome.Outcome.TheVariants as outcome
+use Rattle.core_law.specs.core_events.declared.shape.Shape.{Shape}
+use Rattle.core_law.specs.core_events.declared.view.CoreView.{CoreView}
+use Rattle.core_law.specs.core_events.Views.{no_view, room_of}
+use Rattle.core_law.specs.core_events.Steps.{noted}
+use Rattle.core_law.specs.core_events.Runs.{Core, Enabled, after, left_behind, taken_over, view_at, views_after}
+use Rattle.core_law.specs.core_events.Good.{staying_room}
 use Rattle.core_law.specs.Sound.{Sound}
 use Rattle.core_law.proofs.Kit.{total_at}
 use Rattle.cdrc_core.specs.State.{State}

@@ -1,3 +1,4 @@
+pub mod Below
 pub mod FirstBad
 pub mod InRange
 pub mod Leaving

@@ -1,10 +1,10 @@
 -- A list of events, one more at a time.
 use Rattle.std.proofs.Common.{◌≡◌, ◌∙◌, ℕ, zero, suc, ◌+◌, ◌<◌, ◌≤◌, List, [], ◌∷◌, ◌++◌, length, get_or, take, refl, ap, sym, subst, add-one, arith}
 use Rattle.std.proofs.lemmas.List.{get_or_default, take_all}
-use Rattle.core_events.specs.declared.act.Event.{Event}
-use Rattle.core_events.specs.declared.outcome.Outcome.{Outcome}
-use Rattle.core_events.specs.declared.shape.Shape.{Shape}
-use Rattle.core_events.specs.Runs.{AreEnabled, Core, Enabled, after, outcome_of, outcomes, run}
+use Rattle.core_law.specs.core_events.declared.act.Event.{Event}
+use Rattle.core_law.specs.core_events.declared.outcome.Outcome.{Outcome}
+use Rattle.core_law.specs.core_events.declared.shape.Shape.{Shape}
+use Rattle.core_law.specs.core_events.Runs.{AreEnabled, Core, Enabled, after, outcome_of, outcomes, run}
 use Rattle.cdrc_core.specs.Replays.{IsFirstRefused}
 use Rattle.cdrc_core.specs.State.{State}
 

@@ -1,12 +1,12 @@
 -- What is kept of a core: at the start, and after an event or a refusal.
 use Rattle.std.proofs.Common.{◌≡◌, ℕ, ◌≤◌, ◌^◌, List, Result, Ok, Err, sum, sym, subst}
 use Rattle.std.specs.Prelude.{OnOk, OnErr}
-use Rattle.core_events.specs.declared.act.Act.{Act}
-use Rattle.core_events.specs.declared.act.Event.{Event}
-use Rattle.core_events.specs.declared.shape.Shape.{Shape}
-use Rattle.core_events.specs.Good.{Good}
-use Rattle.core_events.specs.Views.{Terms}
-use Rattle.core_events.specs.Runs.{AreTerms, Enabled, Core, IsShape, after, start}
+use Rattle.core_law.specs.core_events.declared.act.Act.{Act}
+use Rattle.core_law.specs.core_events.declared.act.Event.{Event}
+use Rattle.core_law.specs.core_events.declared.shape.Shape.{Shape}
+use Rattle.core_law.specs.core_events.Good.{Good}
+use Rattle.core_law.specs.core_events.Views.{Terms}
+use Rattle.core_law.specs.core_events.Runs.{AreTerms, Enabled, Core, IsShape, after, start}
 use Rattle.core_law.proofs.Always.{step_keeps}
 use Rattle.core_law.proofs.Parts.{sound_good}
 use Rattle.core_law.proofs.Starts.{start_sound}

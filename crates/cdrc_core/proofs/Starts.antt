@@ -1,8 +1,8 @@
 -- The seats at the start, one more at a time.
 use Rattle.std.proofs.Common.{◌≡◌, ℕ, zero, suc, ◌+◌, ◌<◌, List, [], ◌∷◌, ◌++◌, length, get_or, take, refl, ap, add-zero, add-one, arith}
-use Rattle.core_events.specs.declared.shape.Shape.{Shape}
-use Rattle.core_events.specs.declared.shape.Quota.{Quota}
-use Rattle.core_events.specs.Views.{first_view, first_views}
+use Rattle.core_law.specs.core_events.declared.shape.Shape.{Shape}
+use Rattle.core_law.specs.core_events.declared.shape.Quota.{Quota}
+use Rattle.core_law.specs.core_events.Views.{first_view, first_views}
 
 next_seat : (z : Shape) (n : ℕ) (qs : List Quota) (gs : List ℕ) (i : ℕ) (d : Quota) → i < length qs
     → first_views z n (take (suc i) qs) gs

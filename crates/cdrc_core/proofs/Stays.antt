@@ -1,10 +1,10 @@
 -- Acts that ask nothing but what the acting seat's view tells.
 use Rattle.std.proofs.Common.{◌≡◌, ℕ, refl}
-use Rattle.plain_state.specs.declared.slot.SlotId.{SlotId}
-use Rattle.core_events.specs.declared.act.Act.{Act}
-use Rattle.core_events.specs.declared.act.Act.TheVariants as act
-use Rattle.core_events.specs.declared.shape.Shape.{Shape}
-use Rattle.core_events.specs.Runs.{Core, RestMay}
+use Rattle.core_law.specs.plain_state.declared.slot.SlotId.{SlotId}
+use Rattle.core_law.specs.core_events.declared.act.Act.{Act}
+use Rattle.core_law.specs.core_events.declared.act.Act.TheVariants as act
+use Rattle.core_law.specs.core_events.declared.shape.Shape.{Shape}
+use Rattle.core_law.specs.core_events.Runs.{Core, RestMay}
 
 -- an act that is no leave and destroys nothing has no condition beside what its seat's view tells
 pub rest_other : (z : Shape) (c : Core) (a : Act) → ((s : SlotId) → a ≡ act.Destroy s → ⊥)

@@ -1,7 +1,7 @@
 -- What holds of every core, whatever was done with it.
 use Rattle.std.specs.Prelude.{ℕ, ◌≤◌, ◌^◌, sum}
-use Rattle.core_events.specs.declared.shape.Shape.{Shape}
-use Rattle.core_events.specs.Runs.{Core, view_at}
+use Rattle.core_law.specs.core_events.declared.shape.Shape.{Shape}
+use Rattle.core_law.specs.core_events.Runs.{Core, view_at}
 use Rattle.core_law.specs.Sound.{Sound}
 
 -- the invariant of all events, and that what the tickets of a seat can grant is within its bound

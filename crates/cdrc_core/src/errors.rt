@@ -4,8 +4,8 @@ ghost use Rattle.cdrc_core.specs.declared.errors.StartError.TheVariants as start
 ghost use Rattle.cdrc_core.specs.declared.errors.StepError.TheVariants as step;
 ghost use Rattle.cdrc_core.specs.declared.errors.ReplayError.TheVariants as replay;
 
-use core_events::ShapeField;
-use out_of_memory::OutOfMemory as NoMemory;
+use core_law::ShapeField;
+use core_views::OutOfMemory as NoMemory;
 use std::alloc::AllocError;
 use thiserror::Error;
 

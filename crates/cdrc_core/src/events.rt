@@ -1,16 +1,16 @@
 //! One event: whether it is enabled, and what it does.
 ghost use Rattle.std.specs.Prelude.{ℕ, ◌≡◌, ◌↔◌, ◌<◌, IsTrue, IfOk, OnOk, OnErr, Err, length};
-ghost use Rattle.core_events.specs.declared.act.Act.TheVariants as act;
-ghost use Rattle.core_events.specs.Steps.{May};
-ghost use Rattle.core_events.specs.Runs.{Enabled, RestMay, after, outcome_of, view_at};
+ghost use Rattle.core_law.specs.core_events.declared.act.Act.TheVariants as act;
+ghost use Rattle.core_law.specs.core_events.Steps.{May};
+ghost use Rattle.core_law.specs.core_events.Runs.{Enabled, RestMay, after, outcome_of, view_at};
 ghost use Rattle.cdrc_core.specs.Kept.{Kept};
 ghost use Rattle.cdrc_core.specs.declared.errors.StepError.TheVariants.{NotEnabled, OutOfMemory};
 
 use crate::errors::StepError;
 use crate::table::Table;
 use crate::words::next_word;
-use core_events::{Act, Event, Outcome};
-use out_of_memory::OutOfMemory as NoMemory;
+use core_law::Event;
+use core_views::{Act, OutOfMemory as NoMemory, Outcome};
 
 impl Table {
     /// Whether the part of an event's condition holds that its seat's own view doesn't tell.

@@ -25,20 +25,12 @@ mod machine;
 mod replays;
 mod seats;
 mod table;
-#[cfg(test)]
-mod tests;
-#[cfg(test)]
-mod tests_check;
-#[cfg(test)]
-mod tests_rows;
-#[cfg(test)]
-mod tests_walk;
 mod words;
 
-pub use core_events::{
-    Act, Event, EventPlace, Kind, Note, Outcome, Phase, Quota, Shape, ShapeField, SlotId,
+pub use core_law::{Event, ShapeField};
+pub use core_views::{
+    Act, EventPlace, Kind, Note, Outcome, OwnView, Phase, Quota, Shape, SlotId, is_content,
+    one_first_bad,
 };
-pub use core_functions::one_first_bad;
-pub use core_views::OwnView;
 pub use errors::{ReplayError, StartError, StepError};
 pub use machine::Core;

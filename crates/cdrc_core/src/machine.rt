@@ -1,19 +1,19 @@
 //! The core: its invariant, and its public calls.
 ghost use Rattle.std.specs.Prelude.{◌≡◌, ◌==◌, ◌↔◌, ◌<◌, [], IsTrue, IfOk, OnOk, OnErr, Err};
-ghost use Rattle.core_events.specs.declared.shape.ShapeField.{ShapeField};
-ghost use Rattle.core_events.specs.Counts.{free_bit, strong, weak};
-ghost use Rattle.core_events.specs.Good.{Good};
-ghost use Rattle.core_events.specs.Runs.{AreTerms, Enabled, IsShape, after, outcome_of, start, view_at};
-ghost use Rattle.core_functions.specs.Fields.{IsFirstBad};
+ghost use Rattle.core_law.specs.core_events.declared.shape.ShapeField.{ShapeField};
+ghost use Rattle.core_law.specs.core_events.Counts.{free_bit, strong, weak};
+ghost use Rattle.core_law.specs.core_events.Good.{Good};
+ghost use Rattle.core_law.specs.core_events.Runs.{AreTerms, Enabled, IsShape, after, outcome_of, start, view_at};
+ghost use Rattle.core_law.specs.Sound.{Sound};
+ghost use Rattle.core_views.specs.core_functions.Fields.{IsFirstBad};
 ghost use Rattle.cdrc_core.specs.declared.errors.StartError.TheVariants.{BadShape};
 ghost use Rattle.cdrc_core.specs.declared.errors.StepError.TheVariants.{NotEnabled, OutOfMemory};
 ghost use Rattle.cdrc_core.specs.State.{terms};
 
 use crate::errors::{StartError, StepError};
 use crate::table::Table;
-use core_events::{Event, Outcome, Quota, Shape, SlotId};
-use core_functions::first_bad;
-use core_views::OwnView;
+use core_law::Event;
+use core_views::{Outcome, OwnView, Quota, Shape, SlotId, first_bad};
 use std::alloc::Global;
 use std::marker::Model;
 
@@ -140,10 +140,11 @@ impl Core {
         self.table.seat(seat)
     }
 
-    /// What holds of every core, whatever was done with it: the invariant of `core_events`. It does
-    /// nothing.
+    /// What holds of every core, whatever was done with it: the invariant of `core_events`, and the same in the form
+    /// from which `core_law` and `core_promises` conclude. It does nothing.
     pub fn law(&self)
-        ensures { Good self.now.shape self.now.core }
+        ensures good { Good self.now.shape self.now.core }
+        ensures sound { Sound self.now.shape self.now.core }
     {
         let _table = &self.table;
     }

@@ -1,8 +1,8 @@
 //! A whole list of events.
 ghost use Rattle.std.specs.Prelude.{ℕ, ◌≡◌, ◌↔◌, ◌<◌, ◌+◌, [], IfOk, OnOk, Err, length, take};
-ghost use Rattle.core_events.specs.declared.shape.ShapeField.{ShapeField};
-ghost use Rattle.core_events.specs.Runs.{AreEnabled, AreTerms, IsShape, outcomes, run, start};
-ghost use Rattle.core_functions.specs.Fields.{IsFirstBad};
+ghost use Rattle.core_law.specs.core_events.declared.shape.ShapeField.{ShapeField};
+ghost use Rattle.core_law.specs.core_events.Runs.{AreEnabled, AreTerms, IsShape, outcomes, run, start};
+ghost use Rattle.core_views.specs.core_functions.Fields.{IsFirstBad};
 ghost use Rattle.cdrc_core.specs.Replays.{IsFirstRefused};
 ghost use Rattle.cdrc_core.specs.declared.errors.StartError.TheVariants.{BadShape};
 ghost use Rattle.cdrc_core.specs.declared.errors.StepError.TheVariants.{NotEnabled, OutOfMemory};
@@ -11,7 +11,8 @@ ghost use Rattle.cdrc_core.specs.State.{terms};
 
 use crate::errors::ReplayError;
 use crate::machine::Core;
-use core_events::{Event, Outcome, Quota, Shape};
+use core_law::Event;
+use core_views::{Outcome, Quota, Shape};
 use std::alloc::Global;
 
 impl Core {

@@ -1,12 +1,10 @@
 //! The seats at the start.
 ghost use Rattle.std.specs.Prelude.{◌≡◌, IfOk};
-ghost use Rattle.core_events.specs.Views.{first_views};
-ghost use Rattle.core_events.specs.Runs.{AreTerms, IsShape};
+ghost use Rattle.core_law.specs.core_events.Views.{first_views};
+ghost use Rattle.core_law.specs.core_events.Runs.{AreTerms, IsShape};
 ghost use Rattle.cdrc_core.specs.State.{terms};
 
-use core_events::{Quota, Shape};
-use core_views::OwnView;
-use out_of_memory::OutOfMemory;
+use core_views::{OutOfMemory, OwnView, Quota, Shape};
 use std::alloc::Global;
 
 /// A seat for each quota, that has done nothing. Each knows what tickets grant.

@@ -1,15 +1,14 @@
 //! All words and all seats, and one event of them.
 ghost use Rattle.std.specs.Prelude.{◌≡◌, ◌==◌, ◌↔◌, ◌<◌, IsTrue, IfOk};
-ghost use Rattle.core_events.specs.Counts.{free_bit, strong, weak};
-ghost use Rattle.core_events.specs.Runs.{AreTerms, HasNullFields, IsShape, start, view_at};
+ghost use Rattle.core_law.specs.core_events.Counts.{free_bit, strong, weak};
+ghost use Rattle.core_law.specs.core_events.Runs.{AreTerms, HasNullFields, IsShape, start, view_at};
 ghost use Rattle.cdrc_core.specs.Kept.{Kept};
 ghost use Rattle.cdrc_core.specs.State.{State, terms};
 
 use crate::seats::first_seats;
-use core_events::{Quota, Shape, SlotId};
-use core_functions::{bits_index, first_words, has_bit, slot_index};
-use core_views::OwnView;
-use out_of_memory::OutOfMemory;
+use core_views::{
+    OutOfMemory, OwnView, Quota, Shape, SlotId, bits_index, first_words, has_bit, slot_index,
+};
 use std::alloc::Global;
 use std::marker::Model;
 

@@ -1,13 +1,10 @@
 //! What becomes of a word of a core.
 ghost use Rattle.std.specs.Prelude.{◌≡◌};
-ghost use Rattle.core_events.specs.Steps.{next};
+ghost use Rattle.core_law.specs.core_events.Steps.{next};
 ghost use prog.Atomic.{either};
 
-use announce_slots::announced_as;
-use core_events::Act;
-use core_functions::{bit_alone, held_as, slot_in_phase};
-use core_views::OwnView;
-use counter_word::{HELP, ZERO};
+use core_law::{HELP, ZERO, announced_as};
+use core_views::{Act, OwnView, bit_alone, held_as, slot_in_phase};
 
 /// `new` where the condition holds, else the word that was there.
 fn replaced(condition: bool, new: u64, word: u64) -> u64

@@ -1,9 +1,9 @@
 -- Which slots of a plain heap may be restless: an object without references, which is to end, or a husk without weak
 -- references, which is to be given again.
 use Rattle.std.specs.Prelude.{◌≢◌, ◌<◌, length, if◌then◌else◌}
-use Rattle.plain_state.specs.declared.slot.SlotId.{SlotId}
-use Rattle.plain_state.specs.Lists.{is_slot}
-use Rattle.plain_state.specs.State.{Plain}
+use Rattle.plain_protocol.specs.plain_state.declared.slot.SlotId.{SlotId}
+use Rattle.plain_protocol.specs.plain_state.Lists.{is_slot}
+use Rattle.plain_protocol.specs.plain_state.State.{Plain}
 use Rattle.plain_store.specs.Draining.{IsCalm}
 use Rattle.cdrc_plain.specs.declared.restless.Restless.{Restless}
 use Rattle.cdrc_plain.specs.declared.restless.Restless.TheVariants.{Nowhere, At, Anywhere}

@@ -1,22 +1,21 @@
 //! The slow heap of one seat: every call is the plain steps of its row, and nothing else.
 ghost use Rattle.std.specs.Prelude.{◌≡◌, ◌+◌, ◌<◌, ◌≤◌, ◌↔◌, IfOk, OnErr, IsTrue, length};
-ghost use Rattle.plain_state.specs.Limits.{most_cells, most_slots, most_weak_cells};
-ghost use Rattle.plain_state.specs.declared.act.PlainAct.TheVariants as act;
-ghost use Rattle.plain_state.specs.declared.slot.SlotId.{SlotId};
-ghost use Rattle.plain_state.specs.State.{Plain, empty, seat_at};
-ghost use Rattle.plain_state.specs.Places.{Holds};
-ghost use Rattle.plain_state.specs.References.{strong_refs, weak_refs};
-ghost use Rattle.plain_state.specs.Lawful.{Lawful};
-ghost use Rattle.plain_state.specs.Steps.{Does};
-ghost use Rattle.plain_state.specs.Fits.{AllFit};
+ghost use Rattle.plain_protocol.specs.plain_state.Limits.{most_cells, most_slots, most_weak_cells};
+ghost use Rattle.plain_protocol.specs.plain_state.declared.act.PlainAct.TheVariants as act;
+ghost use Rattle.plain_protocol.specs.plain_state.declared.slot.SlotId.{SlotId};
+ghost use Rattle.plain_protocol.specs.plain_state.State.{Plain, empty, seat_at};
+ghost use Rattle.plain_protocol.specs.plain_state.Places.{Holds};
+ghost use Rattle.plain_protocol.specs.plain_state.References.{strong_refs, weak_refs};
+ghost use Rattle.plain_protocol.specs.plain_state.Lawful.{Lawful};
+ghost use Rattle.plain_protocol.specs.plain_state.Steps.{Does};
+ghost use Rattle.plain_protocol.specs.plain_state.Fits.{AllFit};
 ghost use Rattle.plain_store.specs.Heaps.{Owns, Makes, NoneFree};
 ghost use Rattle.plain_store.specs.Stores.{plain_of, Kept};
 ghost use Rattle.cdrc_plain.specs.Watching.{IsRestlessOnly};
 
 use crate::restless::Restless;
-use out_of_memory::OutOfMemory;
-use plain_state::{PayloadKind, SlotId};
-use plain_store::{Hand, MakeRefused, Store};
+use plain_protocol::{PayloadKind, SlotId};
+use plain_store::{Hand, MakeRefused, OutOfMemory, Store};
 use std::alloc::Global;
 use std::marker::{Model, PhantomData};
 

@@ -1,17 +1,16 @@
 //! References of a plain heap: one more, one fewer, and what a slot holds.
 ghost use Rattle.std.specs.Prelude.{◌≡◌, ◌<◌, IfOk, OnErr, slice_index};
-ghost use Rattle.plain_state.specs.Limits.{words_of_payload};
-ghost use Rattle.plain_state.specs.declared.act.PlainAct.TheVariants as act;
-ghost use Rattle.plain_state.specs.State.{seat_at, slot_at};
-ghost use Rattle.plain_state.specs.Places.{Holds};
-ghost use Rattle.plain_state.specs.Steps.{Does};
+ghost use Rattle.plain_protocol.specs.plain_state.Limits.{words_of_payload};
+ghost use Rattle.plain_protocol.specs.plain_state.declared.act.PlainAct.TheVariants as act;
+ghost use Rattle.plain_protocol.specs.plain_state.State.{seat_at, slot_at};
+ghost use Rattle.plain_protocol.specs.plain_state.Places.{Holds};
+ghost use Rattle.plain_protocol.specs.plain_state.Steps.{Does};
 ghost use Rattle.plain_store.specs.Heaps.{Owns, OwnsWeakly};
 ghost use Rattle.plain_store.specs.Calls.{Gains, WeaklyGains, Upgrades};
 
 use crate::heap::PlainHeap;
-use out_of_memory::OutOfMemory;
-use plain_state::{PayloadKind, SlotId};
-use plain_store::{Hand, WeakHand};
+use plain_protocol::{PayloadKind, SlotId};
+use plain_store::{Hand, OutOfMemory, WeakHand};
 
 /// Each call that gains a reference uses an add. It answers OutOfMemory where its list can't grow,
 /// and where the heap's adds would pass 2^63 - 2; the heap is then as it was.

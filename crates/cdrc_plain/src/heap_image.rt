@@ -1,13 +1,12 @@
 //! A plain heap as words.
 ghost use Rattle.std.specs.Prelude.{◌≡◌, IfOk};
-ghost use Rattle.plain_state.specs.Images.{IsImage};
+ghost use Rattle.plain_protocol.specs.plain_state.Images.{IsImage};
 ghost use Rattle.plain_store.specs.Heaps.{IsHeap};
 ghost use Rattle.plain_store.specs.Stores.{plain_of, Kept};
 
 use crate::heap::PlainHeap;
-use out_of_memory::OutOfMemory;
-use plain_state::{Heap, PayloadKind};
-use plain_store::words;
+use plain_protocol::{Heap, PayloadKind};
+use plain_store::{OutOfMemory, words};
 use std::alloc::Global;
 
 impl<W: PayloadKind> PlainHeap<W> {

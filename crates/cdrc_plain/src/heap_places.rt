@@ -1,14 +1,13 @@
 //! The places of a plain heap: put, replaced, loaded.
 ghost use Rattle.std.specs.Prelude.{◌≡◌, IfOk, IfErr, OnErr};
-ghost use Rattle.plain_state.specs.declared.slot.Kind.TheVariants.{Strong, Weak};
-ghost use Rattle.plain_state.specs.State.{seat_at};
-ghost use Rattle.plain_state.specs.Places.{IsOpen};
+ghost use Rattle.plain_protocol.specs.plain_state.declared.slot.Kind.TheVariants.{Strong, Weak};
+ghost use Rattle.plain_protocol.specs.plain_state.State.{seat_at};
+ghost use Rattle.plain_protocol.specs.plain_state.Places.{IsOpen};
 ghost use Rattle.plain_store.specs.Calls.{strong_place, weak_place, MayGive, Puts, Tries, Loads, WeaklyLoads};
 
 use crate::heap::PlainHeap;
-use out_of_memory::{Back, OutOfMemory};
-use plain_state::{PayloadKind, SlotId};
-use plain_store::{Hand, PlainPlace, PlainWeakPlace, WeakHand};
+use plain_protocol::{PayloadKind, SlotId};
+use plain_store::{Back, Hand, OutOfMemory, PlainPlace, PlainWeakPlace, WeakHand};
 
 /// The slot of a handle.
 fn slot_of(h: &Option<Hand>) -> Option<SlotId>

@@ -1,7 +1,7 @@
 //! A plain heap settles.
 ghost use Rattle.std.specs.Prelude.{◌≡◌, ◌+◌, IfOk, OnOk, OnErr};
-ghost use Rattle.plain_state.specs.declared.slot.SlotId.{SlotId};
-ghost use Rattle.plain_state.specs.Fits.{AllFit};
+ghost use Rattle.plain_protocol.specs.plain_state.declared.slot.SlotId.{SlotId};
+ghost use Rattle.plain_protocol.specs.plain_state.Fits.{AllFit};
 ghost use Rattle.plain_store.specs.Settling.{SettlesTo, SettlesInOrder, IsSettled};
 ghost use Rattle.plain_store.specs.Stores.{plain_of, Kept};
 ghost use Rattle.cdrc_plain.specs.Watching.{IsRestlessOnly};
@@ -9,9 +9,8 @@ ghost use Rattle.plain_store.specs.Draining.{SettlesFreely, HasRoom, IsCalm};
 
 use crate::heap::PlainHeap;
 use crate::restless::Restless;
-use out_of_memory::OutOfMemory;
-use plain_state::PayloadKind;
-use plain_store::Store;
+use plain_protocol::PayloadKind;
+use plain_store::{OutOfMemory, Store};
 
 /// The slots where the heap may be restless end, or are given again, where nothing keeps them.
 fn calm_down(store: &mut Store, restless: Restless)

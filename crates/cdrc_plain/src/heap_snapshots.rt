@@ -1,13 +1,12 @@
 //! Snapshots of a plain heap.
 ghost use Rattle.std.specs.Prelude.{◌≡◌, IfOk, OnErr};
-ghost use Rattle.plain_state.specs.Places.{IsOpen};
-ghost use Rattle.plain_state.specs.Steps.{Does};
+ghost use Rattle.plain_protocol.specs.plain_state.Places.{IsOpen};
+ghost use Rattle.plain_protocol.specs.plain_state.Steps.{Does};
 ghost use Rattle.plain_store.specs.Calls.{strong_place, Snaps, HasSnapshot, ending, Gains};
 
 use crate::heap::PlainHeap;
-use out_of_memory::OutOfMemory;
-use plain_state::PayloadKind;
-use plain_store::{Hand, PlainPlace, SnapHand, counted};
+use plain_protocol::PayloadKind;
+use plain_store::{Hand, OutOfMemory, PlainPlace, SnapHand, counted};
 
 impl<W: PayloadKind> PlainHeap<W> {
     /// A snapshot of what the place holds, or None exactly where it holds null. It is counted, and

@@ -23,20 +23,13 @@ mod heap_places;
 mod heap_settle;
 mod heap_snapshots;
 mod restless;
-#[cfg(test)]
-mod tests;
-#[cfg(test)]
-mod tests_asks;
-#[cfg(test)]
-mod tests_settle;
 
 pub use heap::PlainHeap;
-pub use out_of_memory::{Back, OutOfMemory};
-pub use plain_protocol::{AnyStep, Deed, NoLaw, Protocol, Still};
-pub use plain_state::{
-    Announced, EventPlace, Heap, Kind, PayloadKind, PlainAct, PlainSlot, RecordKind, SlotId,
-    SlotImage, Stage, ZERO, record_of, steps_keep_sound,
+pub use plain_protocol::{
+    Announced, AnyStep, Deed, EventPlace, Heap, Kind, NoLaw, PayloadKind, PlainAct, PlainSlot,
+    Protocol, RecordKind, SlotId, SlotImage, Stage, Still, ZERO, record_of, steps_keep_sound,
 };
 pub use plain_store::{
-    Full, Hand, MakeRefused, PlainPlace, PlainWeakPlace, SnapHand, WeakHand, counted,
+    Back, Full, Hand, MakeRefused, OutOfMemory, PlainPlace, PlainWeakPlace, SnapHand, WeakHand,
+    counted,
 };

@@ -2,7 +2,7 @@
 ghost use Rattle.std.specs.Prelude.{◌≡◌};
 ghost use Rattle.cdrc_plain.specs.Watching.{also};
 
-use plain_state::SlotId;
+use plain_protocol::SlotId;
 
 /// Where a drop may have left a slot without references since the heap settled last.
 #[derive(Clone, Copy, PartialEq, Eq, Debug, Drop)]

@@ -1,13 +1,13 @@
 -- What the words of a command line ask for is within ranges, and is one job.
 use Rattle.std.proofs.Common.{◌≡◌, ℕ, ◌≤◌, List, [], ◌∷◌, IfSome, length, sym, ap, subst, ◌∙◌, arith}
 use Rattle.std.specs.declared.option.Option.{Option}
-use Rattle.plain_state.specs.Limits.{most_slots}
+use Rattle.command_line.specs.plain_state.Limits.{most_slots}
 use Rattle.command_line.specs.Parts.{Text}
 use Rattle.command_line.specs.Requests.{AreDraws, Asks, IsSame}
 use Rattle.command_line.specs.Values.{IsNumberOr, IsSlots}
-use Rattle.run_requests.specs.declared.asked.Draws.{Draws}
-use Rattle.run_requests.specs.declared.asked.Request.{Request}
-use Rattle.run_requests.specs.declared.asked.Request.TheVariants as request
+use Rattle.command_line.specs.run_requests.declared.asked.Draws.{Draws}
+use Rattle.command_line.specs.run_requests.declared.asked.Request.{Request}
+use Rattle.command_line.specs.run_requests.declared.asked.Request.TheVariants as request
 use Rattle.cdrc_run.specs.declared.outcome.End.{End}
 use Rattle.cdrc_run.specs.Ends.{Ends, SinkRun, SourceRun}
 use Rattle.cdrc_run.specs.Jobs.{AreInRange, AsksJob, HasRanges, Job, bulk, draw, job_of, script, steps}

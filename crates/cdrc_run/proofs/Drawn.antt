@@ -6,9 +6,9 @@ use Rattle.std.proofs.lemmas.List.FromFn.{length-range_with_len}
 use Rattle.std.proofs.lemmas.List.Sums.{sum_by-cons}
 use Rattle.std.specs.Fmt.{decimal}
 use Rattle.std.specs.List.{range_with_len, sum_by}
-use Rattle.cdrc_text.specs.Generated.{after_word, draw, drawn_part, drawn_word, generated_text}
-use Rattle.run_requests.specs.declared.asked.Bulk.{Bulk}
-use Rattle.run_requests.specs.declared.asked.Draws.{Draws}
+use Rattle.command_line.specs.cdrc_text.Generated.{after_word, draw, drawn_part, drawn_word, generated_text}
+use Rattle.command_line.specs.run_requests.declared.asked.Bulk.{Bulk}
+use Rattle.command_line.specs.run_requests.declared.asked.Draws.{Draws}
 use Rattle.words_work.specs.Contents.{bytes_in}
 use Rattle.words_work.specs.Limits.{most_bytes}
 use Rattle.cdrc_run.specs.Jobs.{AreInRange, drawn_texts, next_draws, text_of_draws}

@@ -4,9 +4,9 @@ use Rattle.std.proofs.lemmas.Bool.Decides.{nat_tests}
 use Rattle.std.proofs.lemmas.List.Sums.{sum_by-append, sum_by-cons}
 use Rattle.std.specs.Fmt.{decimal, digit_glyph, digits, digits_onto}
 use Rattle.std.specs.List.{count_by}
-use Rattle.cdrc_text.specs.declared.row.AuditLine.{AuditLine}
-use Rattle.cdrc_text.specs.declared.row.Totals.{Totals}
-use Rattle.cdrc_text.specs.Report.{audit_line, closing_lines, files_line}
+use Rattle.command_line.specs.cdrc_text.declared.row.AuditLine.{AuditLine}
+use Rattle.command_line.specs.cdrc_text.declared.row.Totals.{Totals}
+use Rattle.command_line.specs.cdrc_text.Report.{audit_line, closing_lines, files_line}
 
 abbrev pub is_feed : ℕ → Bool
 is_feed byte = byte == 10

@@ -2,10 +2,10 @@
 use Rattle.std.proofs.Common.{◌≡◌, ℕ, inl, inr, List, [], ◌∷◌, ◌++◌, length, codes, refl, sym, ap, ◌∙◌, append_assoc, append-nil}
 use Rattle.std.specs.Fmt.{decimal}
 use Rattle.std.specs.List.{flat_map}
-use Rattle.cdrc_text.specs.declared.row.Totals.{Totals}
-use Rattle.cdrc_text.specs.Fold.{File, holders_in, occurrences_in}
-use Rattle.cdrc_text.specs.Report.{closing_lines, word_line}
-use Rattle.cdrc_text.specs.Text.{IsReport, totals_in}
+use Rattle.command_line.specs.cdrc_text.declared.row.Totals.{Totals}
+use Rattle.command_line.specs.cdrc_text.Fold.{File, holders_in, occurrences_in}
+use Rattle.command_line.specs.cdrc_text.Report.{closing_lines, word_line}
+use Rattle.command_line.specs.cdrc_text.Text.{IsReport, totals_in}
 use Rattle.cdrc_run.specs.Closings.{EndsInLines, IsWholeLines}
 use Rattle.cdrc_run.specs.Outputs.{IsClosing}
 

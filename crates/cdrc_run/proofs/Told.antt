@@ -1,7 +1,7 @@
 -- Contents that are told decide whether a job's limit is passed.
 use Rattle.std.proofs.Common.{ℕ, List, [], ◌∷◌, subst, arith}
-use Rattle.acquire_retire.specs.Seats.{SeatState}
-use Rattle.words_law.specs.Views.{View}
+use Rattle.cdrc_scripts.specs.acquire_retire.Seats.{SeatState}
+use Rattle.words_work.specs.words_law.Views.{View}
 use Rattle.words_work.specs.Contents.{AreContents, AreTold, Told}
 use Rattle.words_work.specs.Limits.{most_bytes}
 use Rattle.words_work.proofs.Refusing.{told_not_large, told_not_long, within_passes, within_too_many}

@@ -1,8 +1,8 @@
 -- The ends of runs that have no output.
 use Rattle.std.proofs.Common.{◌≡◌, ℕ, ◌⊎◌, inl, inr, List, arith}
-use Rattle.acquire_retire.specs.Seats.{SeatState}
-use Rattle.words_law.specs.Views.{View}
-use Rattle.lane_gate.specs.Causes.{Rose}
+use Rattle.cdrc_scripts.specs.acquire_retire.Seats.{SeatState}
+use Rattle.words_work.specs.words_law.Views.{View}
+use Rattle.words_work.specs.lane_gate.Causes.{Rose}
 use Rattle.words_work.specs.declared.outcome.WordsRefused.{WordsRefused}
 use Rattle.words_work.specs.declared.outcome.WordsRefused.TheVariants as refused
 use Rattle.words_work.proofs.Refusing.{rose_stood}

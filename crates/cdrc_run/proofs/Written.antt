@@ -4,8 +4,8 @@ use Rattle.std.specs.declared.result.Result.{Result}
 use Rattle.std.specs.declared.option.Option.{Option}
 use Rattle.std.proofs.lemmas.List.Sums.{sum_by-cons}
 use Rattle.cdrc_steps.specs.Meaning.{IsSteps}
-use Rattle.run_requests.specs.declared.asked.Bulk.{Bulk}
-use Rattle.lane_gate.specs.Causes.{Rose}
+use Rattle.command_line.specs.run_requests.declared.asked.Bulk.{Bulk}
+use Rattle.words_work.specs.lane_gate.Causes.{Rose}
 use Rattle.words_work.specs.Contents.{IsContent, IsTooLong, Told, bytes_in}
 use Rattle.words_work.specs.Limits.{most_bytes}
 use Rattle.words_work.specs.Outcomes.{Counts, IsDone, IsWhyNotDone}

@@ -1,7 +1,7 @@
 -- Where the last three lines of a text of counts begin.
 use Rattle.std.specs.Prelude.{ℕ, ◌≡◌, ◌⊎◌, List, [], ◌∷◌, ◌++◌}
-use Rattle.cdrc_text.specs.declared.row.Totals.{Totals}
-use Rattle.cdrc_text.specs.Report.{closing_lines}
+use Rattle.command_line.specs.cdrc_text.declared.row.Totals.{Totals}
+use Rattle.command_line.specs.cdrc_text.Report.{closing_lines}
 
 -- nothing, or bytes whose last one is a line feed
 abbrev pub IsWholeLines : List ℕ → Type 0

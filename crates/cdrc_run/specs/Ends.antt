@@ -3,9 +3,9 @@ use Rattle.std.specs.Prelude.{ℕ, ◌≡◌, ◌≢◌, ◌<◌, ◌⊎◌, Boo
 use Rattle.std.specs.Global.{Vec}
 use Rattle.std.specs.Io.KnownBytes.{append_known}
 use Rattle.std.specs.declared.option.Option.{Option}
-use Rattle.acquire_retire.specs.Seats.{SeatState}
-use Rattle.words_law.specs.Views.{View}
-use Rattle.lane_gate.specs.Causes.{Rose, Stood}
+use Rattle.cdrc_scripts.specs.acquire_retire.Seats.{SeatState}
+use Rattle.words_work.specs.words_law.Views.{View}
+use Rattle.words_work.specs.lane_gate.Causes.{Rose, Stood}
 use Rattle.words_work.specs.Contents.{AreTold, Told}
 use Rattle.words_work.specs.Outcomes.{Counts}
 use Rattle.words_work.specs.declared.outcome.WordsRefused.{WordsRefused}

@@ -1,12 +1,12 @@
 -- What a command line asks to be done, by its texts.
 use Rattle.std.specs.Prelude.{ℕ, ◌≡◌, ◌+◌, ◌%◌, ◌^◌, ◌<◌, ◌≤◌, List, [], ◌∷◌, length, Some, None, string_bytes}
-use Rattle.cdrc_text.specs.Generated.{generated_text}
+use Rattle.command_line.specs.cdrc_text.Generated.{generated_text}
 use Rattle.command_line.specs.Requests.{Asks}
-use Rattle.run_requests.specs.declared.asked.Bulk.{Bulk}
-use Rattle.run_requests.specs.declared.asked.Draws.{Draws}
-use Rattle.run_requests.specs.declared.asked.Request.{Request}
-use Rattle.run_requests.specs.declared.asked.Request.TheVariants as request
-use Rattle.queue_law.specs.declared.view.Form.TheVariants.{Linked}
+use Rattle.command_line.specs.run_requests.declared.asked.Bulk.{Bulk}
+use Rattle.command_line.specs.run_requests.declared.asked.Draws.{Draws}
+use Rattle.command_line.specs.run_requests.declared.asked.Request.{Request}
+use Rattle.command_line.specs.run_requests.declared.asked.Request.TheVariants as request
+use Rattle.words_work.specs.queue_law.declared.view.Form.TheVariants.{Linked}
 use Rattle.words_work.specs.Contents.{bytes_in}
 use Rattle.words_work.specs.Limits as words
 use Rattle.words_work.specs.declared.plan.Plan.{Plan}

@@ -1,17 +1,17 @@
 -- What a job writes, and why it writes nothing.
 use Rattle.std.specs.Prelude.{ℕ, ◌≡◌, Bool, false, List, [], ◌∷◌, length, map, Some, None}
 use Rattle.std.specs.declared.option.Option.{Option}
-use Rattle.cdrc_text.specs.Fold.{AreDistinct, File}
-use Rattle.cdrc_text.specs.Pieces.{pieces_of}
-use Rattle.cdrc_text.specs.Report.{closing_lines}
-use Rattle.cdrc_text.specs.Text.{totals_in}
-use Rattle.control_word.specs.Resting.{IsSpent}
-use Rattle.acquire_retire.specs.Seats.{SeatState}
-use Rattle.words_law.specs.Views.{View}
+use Rattle.command_line.specs.cdrc_text.Fold.{AreDistinct, File}
+use Rattle.command_line.specs.cdrc_text.Pieces.{pieces_of}
+use Rattle.command_line.specs.cdrc_text.Report.{closing_lines}
+use Rattle.command_line.specs.cdrc_text.Text.{totals_in}
+use Rattle.cdrc_scripts.specs.control_word.Resting.{IsSpent}
+use Rattle.cdrc_scripts.specs.acquire_retire.Seats.{SeatState}
+use Rattle.words_work.specs.words_law.Views.{View}
 use Rattle.cdrc_scripts.specs.Domains.{IsScriptOn}
 use Rattle.cdrc_scripts.specs.Meaning.{IsScript}
 use Rattle.cdrc_steps.specs.Meaning.{IsSteps}
-use Rattle.lane_gate.specs.Causes.{Rose}
+use Rattle.words_work.specs.lane_gate.Causes.{Rose}
 use Rattle.words_work.specs.Contents.{AreContents, IsTooLong, Told}
 use Rattle.words_work.specs.Limits as limits
 use Rattle.words_work.specs.Limits.{HasTooMany, most_bytes}

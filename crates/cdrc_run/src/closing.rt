@@ -1,7 +1,7 @@
 //! The last lines of a text of counts.
 ghost use Rattle.std.specs.Prelude.{◌≡◌, ◌++◌, ℕ, List};
-ghost use Rattle.cdrc_text.specs.declared.row.Totals.{Totals};
-ghost use Rattle.cdrc_text.specs.Report.{closing_lines};
+ghost use Rattle.command_line.specs.cdrc_text.declared.row.Totals.{Totals};
+ghost use Rattle.command_line.specs.cdrc_text.Report.{closing_lines};
 ghost use Rattle.cdrc_run.specs.Closings.{EndsInLines, IsWholeLines};
 
 /// How many lines stand after those of the words.

@@ -8,20 +8,12 @@ ghost use Rattle.words_work.specs.Outcomes.{Counts, bytes_of};
 
 use crate::closing::last_lines;
 use crate::outcome::{Output, Why};
-use cdrc_text::generate;
-use deleter::Deleter;
-use directory_protocol::RecordKind;
-use lane_gate::Gate;
-use out_of_memory::OutOfMemory;
-use plain_state::PayloadKind;
-use protocol_pairs::PairKind;
-use queue_law::Form;
-use queue_protocol::NodeKind;
-use run_requests::{Bulk, Draws};
+use cdrc_scripts::{Deleter, PairKind};
+use command_line::{Bulk, Draws, OutOfMemory, PayloadKind, generate};
 use std::alloc::Global;
 use std::sync::Wait;
 use std::thread::Threads;
-use words_work::{Plan, WordsDone, WordsRefused, count_contents};
+use words_work::{Form, Gate, NodeKind, Plan, RecordKind, WordsDone, WordsRefused, count_contents};
 
 /// The text of drawn words.
 pub(crate) fn draw_words(alloc: Global, draws: Draws) -> Result<Output, OutOfMemory>

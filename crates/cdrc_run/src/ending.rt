@@ -4,9 +4,8 @@ ghost use Rattle.cdrc_run.specs.Ends.{IsRefusedEnd, IsWritingEnd, kept_evidence}
 
 use crate::outcome::{End, Output, Why};
 use crate::output::{Unwritten, write_all};
-use lane_gate::Sink;
 use std::alloc::Global;
-use words_work::WordsRefused;
+use words_work::{Sink, WordsRefused};
 
 /// The end of a run that has no output.
 pub(crate) fn refused_end(alloc: Global, refusal: WordsRefused) -> End

@@ -6,22 +6,15 @@ ghost use Rattle.cdrc_run.specs.Outputs.{IsOutputOf, IsWhyNoOutput, evidence};
 
 use crate::drawing::{count_drawn, draw_words};
 use crate::outcome::{Output, Why};
-use acquire_retire::Seat;
-use cdrc_scripts::{Scripted, Written, script};
+use cdrc_scripts::{Deleter, NoLaw, PairKind, ScriptKind, Scripted, Seat, Written, script};
 use cdrc_steps::steps;
-use deleter::Deleter;
-use directory_protocol::RecordKind;
-use lane_gate::{Files, Gate};
-use plain_protocol::NoLaw;
-use plain_state::PayloadKind;
-use protocol_pairs::PairKind;
-use queue_protocol::NodeKind;
-use run_requests::{Request, WordsArgs};
-use script_desk::ScriptKind;
+use command_line::{PayloadKind, Request, WordsArgs};
 use std::alloc::Global;
 use std::sync::Wait;
 use std::thread::Threads;
-use words_work::{MOST_BYTES, WordsDone, WordsRefused, read_file, words_work};
+use words_work::{
+    Files, Gate, MOST_BYTES, NodeKind, RecordKind, WordsDone, WordsRefused, read_file, words_work,
+};
 
 /// The output of what the words of the command line ask for. It may wait for other threads.
 pub(crate) fn output_of<R: Threads + Wait + Sync, F: Files, G: Gate + Sync>(

@@ -1,9 +1,7 @@
 //! How a run ends.
-use acquire_retire::Seat;
-use cdrc_text::Tally;
-use plain_protocol::NoLaw;
-use script_desk::ScriptKind;
-use words_protocol::WordsLaw;
+use cdrc_scripts::{NoLaw, ScriptKind, Seat};
+use command_line::Tally;
+use words_work::WordsLaw;
 
 /// The evidence of a run.
 #[derive(Drop)]

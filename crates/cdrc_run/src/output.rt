@@ -1,9 +1,9 @@
 //! Writing to a sink.
 ghost use Rattle.std.specs.Prelude.{◌≡◌, OnErr, OnOk};
-ghost use Rattle.lane_gate.specs.Causes.{Rose};
+ghost use Rattle.words_work.specs.lane_gate.Causes.{Rose};
 ghost use Rattle.cdrc_run.specs.Ends.{TookAll, TookPart};
 
-use lane_gate::{Sink, SinkFault};
+use words_work::{Sink, SinkFault};
 
 /// Why a sink didn't take all.
 #[derive(Clone, Copy, PartialEq, Eq, Debug, Drop)]

@@ -7,16 +7,12 @@ ghost use Rattle.cdrc_run.specs.Statuses.{IsStatus};
 use crate::ending::{end_without, refused_end, written_end};
 use crate::jobs::output_of;
 use crate::outcome::{End, Why};
-use command_line::request;
-use directory_protocol::RecordKind;
-use lane_gate::{Files, Gate, Sink};
-use plain_state::PayloadKind;
-use protocol_pairs::PairKind;
-use queue_protocol::NodeKind;
-use run_requests::Request;
+use cdrc_scripts::PairKind;
+use command_line::{PayloadKind, Request, request};
 use std::alloc::Global;
 use std::sync::Wait;
 use std::thread::Threads;
+use words_work::{Files, Gate, NodeKind, RecordKind, Sink};
 
 /// Does what the words of the command line say: counts the words of files, runs a script or a list of steps, draws
 /// words, or draws words and counts them. It offers the output to the sink.

@@ -5,13 +5,13 @@ ghost use Rattle.cdrc_run.specs.Statuses.{IsStatus};
 
 use crate::explaining::{exit_status, explain};
 use crate::running::run;
-use lane_gate::{HostFiles, HostSink, Open};
 use std::env;
 use std::io::{Eprint, ErrorKind, Print};
 use std::process::ExitCode;
 use std::rt::{Env, Files};
 use std::sync::Wait;
 use std::thread::Threads;
+use words_work::{HostFiles, HostSink, Open};
 
 /// Runs the program for a process: the words are those of the command line after the program's name, the source is the
 /// host's files, the sink is standard output, and the gate holds nobody. It writes the line for a status other than 0

@@ -1,21 +1,21 @@
 -- A script has one output: two runs of one text go along with desks that are alike.
 use Rattle.std.proofs.Common.{◌≡◌, ◌⊎◌, inl, inr, ℕ, Bool, true, false, List, [], ◌∷◌, ◌++◌, Option, Some, None, refl, ap, ap₂, sym, ◌∙◌, subst}
 use Rattle.std.specs.Bool.{MatchBool}
-use Rattle.line_words.specs.declared.reason.Reason.{Reason}
-use Rattle.line_words.specs.declared.reason.Reason.TheVariants.{Syntax, Range, Name, Kind, NotEnabled}
-use Rattle.line_words.specs.Lines.{numbered_lines}
-use Rattle.line_words.specs.Refused.{refused_line}
-use Rattle.line_words.specs.Words.{is_blank, words_of}
+use Rattle.line_machine.specs.line_words.declared.reason.Reason.{Reason}
+use Rattle.line_machine.specs.line_words.declared.reason.Reason.TheVariants.{Syntax, Range, Name, Kind, NotEnabled}
+use Rattle.line_machine.specs.line_words.Lines.{numbered_lines}
+use Rattle.line_machine.specs.line_words.Refused.{refused_line}
+use Rattle.line_machine.specs.line_words.Words.{is_blank, words_of}
 use Rattle.line_machine.specs.Runs.{Goes}
 use Rattle.line_machine.proofs.Leads.{Done}
-use Rattle.script_lines.specs.declared.command.Command.{Command}
-use Rattle.script_lines.specs.declared.command.ScriptLine.{ScriptLine}
-use Rattle.script_lines.specs.declared.command.ScriptLine.TheVariants.{Heap, Command as OnHeap}
-use Rattle.script_lines.specs.Spelling.{SpellsCommand}
-use Rattle.script_lines.proofs.Unique.{one-line}
-use Rattle.script_desk.specs.Desks.{Desk, scope_of}
-use Rattle.script_desk.specs.Effects.{Runs}
-use Rattle.script_desk.specs.Faults.{IsFault, IsFaultless}
+use Rattle.script_law.specs.script_lines.declared.command.Command.{Command}
+use Rattle.script_law.specs.script_lines.declared.command.ScriptLine.{ScriptLine}
+use Rattle.script_law.specs.script_lines.declared.command.ScriptLine.TheVariants.{Heap, Command as OnHeap}
+use Rattle.script_law.specs.script_lines.Spelling.{SpellsCommand}
+use Rattle.script_law.proofs.Below.script_lines.Unique.{one-line}
+use Rattle.script_law.specs.script_desk.Desks.{Desk, scope_of}
+use Rattle.script_law.specs.script_desk.Effects.{Runs}
+use Rattle.script_law.specs.script_desk.Faults.{IsFault, IsFaultless}
 use Rattle.script_law.specs.Desks.{Alike}
 use Rattle.script_law.specs.Orderly.{IsFresh, IsOrderly}
 use Rattle.script_law.proofs.Fresh.{fresh_alike, fresh_orderly}

@@ -5,12 +5,12 @@ use Rattle.std.specs.List.{flat_map}
 use Rattle.std.specs.Global.{Global}
 use Rattle.std.specs.declared.string.String.{String}
 use Rattle.std.proofs.lemmas.List.Concat.{flat_map-cons}
-use Rattle.cdrc_text.specs.Report.{audit_line}
-use Rattle.script_lines.specs.declared.command.Command.{Command}
-use Rattle.script_lines.specs.declared.command.Command.TheVariants as command
-use Rattle.script_desk.specs.declared.said.Said.{Said}
-use Rattle.script_desk.specs.declared.said.Said.TheVariants as said
-use Rattle.script_desk.specs.declared.said.Shown.{Shown}
+use Rattle.line_machine.specs.cdrc_text.Report.{audit_line}
+use Rattle.script_law.specs.script_lines.declared.command.Command.{Command}
+use Rattle.script_law.specs.script_lines.declared.command.Command.TheVariants as command
+use Rattle.script_law.specs.script_desk.declared.said.Said.{Said}
+use Rattle.script_law.specs.script_desk.declared.said.Said.TheVariants as said
+use Rattle.script_law.specs.script_desk.declared.said.Shown.{Shown}
 use Rattle.script_law.specs.Said.{SaidAlike, ShownAlike}
 use Rattle.cdrc_scripts.specs.SaidLines.{audit_lines, numbers_line, said_line, walk_line}
 

@@ -1,16 +1,16 @@
 -- What a command that ran, or has a fault, says of the line that spells it; and what a run on a domain says of the text.
 use Rattle.std.proofs.Common.{◌≡◌, ℕ, Bool, true, false, List, [], ◌∷◌, ◌++◌, Option, Some, None, refl, ap, sym, subst, inl, inr}
 use Rattle.std.specs.Bool.{MatchBool}
-use Rattle.line_words.specs.declared.reason.Reason.{Reason}
-use Rattle.line_words.specs.declared.reason.Reason.TheVariants.{Syntax, Range, Name, Kind, NotEnabled}
-use Rattle.line_words.specs.Lines.{numbered_lines}
-use Rattle.line_words.specs.Words.{is_blank, words_of}
+use Rattle.line_machine.specs.line_words.declared.reason.Reason.{Reason}
+use Rattle.line_machine.specs.line_words.declared.reason.Reason.TheVariants.{Syntax, Range, Name, Kind, NotEnabled}
+use Rattle.line_machine.specs.line_words.Lines.{numbered_lines}
+use Rattle.line_machine.specs.line_words.Words.{is_blank, words_of}
 use Rattle.line_machine.specs.Runs.{Goes, IsRun}
 use Rattle.line_machine.proofs.Leads.{Done}
-use Rattle.script_lines.specs.declared.command.Command.{Command}
-use Rattle.script_lines.specs.Spelling.{SpellsCommand}
-use Rattle.script_desk.specs.Desks.{Desk, scope_of}
-use Rattle.script_desk.specs.Faults.{IsFault}
+use Rattle.script_law.specs.script_lines.declared.command.Command.{Command}
+use Rattle.script_law.specs.script_lines.Spelling.{SpellsCommand}
+use Rattle.script_law.specs.script_desk.Desks.{Desk, scope_of}
+use Rattle.script_law.specs.script_desk.Faults.{IsFault}
 use Rattle.domain_desk.specs.Desks.{desk_of}
 use Rattle.cdrc_scripts.specs.Domains.{EndsOn, IsSettledDesk, OnDomain, Place, RefusesOn, RunsOn, TakesOn, told}
 use Rattle.cdrc_scripts.specs.Meaning.{Ends, IsScript, Refuses, Takes}

@@ -1,21 +1,21 @@
 -- How a script runs on a domain: its desk between two lines, what each line does to it, and what the trail of its seat
 -- shows.
 use Rattle.std.specs.Prelude.{ℕ, ◌≡◌, ⊤, Bool, List, [], Option, Some, None, option_map}
-use Rattle.plain_store.specs.Settling.{IsSettled}
-use Rattle.plain_protocol.specs.declared.no_law.NoLaw.{NoLaw}
-use Rattle.core_events.specs.Shows.{show_seat}
-use Rattle.acquire_retire.specs.Seats.{SeatState}
-use Rattle.lone_heap.specs.Trails.{Shows}
-use Rattle.line_words.specs.declared.reason.Reason.{Reason}
+use Rattle.script_law.specs.plain_store.Settling.{IsSettled}
+use Rattle.script_law.specs.plain_protocol.declared.no_law.NoLaw.{NoLaw}
+use Rattle.domain_desk.specs.core_events.Shows.{show_seat}
+use Rattle.domain_desk.specs.acquire_retire.Seats.{SeatState}
+use Rattle.domain_desk.specs.lone_heap.Trails.{Shows}
+use Rattle.line_machine.specs.line_words.declared.reason.Reason.{Reason}
 use Rattle.line_machine.specs.Runs.{IsRun}
-use Rattle.script_lines.specs.declared.command.Command.{Command}
-use Rattle.script_lines.specs.declared.command.ScriptLine.TheVariants.{Heap}
-use Rattle.script_lines.specs.Spelling.{Spells, SpellsCommand}
-use Rattle.script_desk.specs.declared.kind.ScriptKind.{ScriptKind}
-use Rattle.script_desk.specs.declared.said.Said.{Said}
-use Rattle.script_desk.specs.Desks.{Desk, scope_of}
-use Rattle.script_desk.specs.Effects.{Runs}
-use Rattle.script_desk.specs.Faults.{IsFaultless}
+use Rattle.script_law.specs.script_lines.declared.command.Command.{Command}
+use Rattle.script_law.specs.script_lines.declared.command.ScriptLine.TheVariants.{Heap}
+use Rattle.script_law.specs.script_lines.Spelling.{Spells, SpellsCommand}
+use Rattle.script_law.specs.script_desk.declared.kind.ScriptKind.{ScriptKind}
+use Rattle.script_law.specs.script_desk.declared.said.Said.{Said}
+use Rattle.script_law.specs.script_desk.Desks.{Desk, scope_of}
+use Rattle.script_law.specs.script_desk.Effects.{Runs}
+use Rattle.script_law.specs.script_desk.Faults.{IsFaultless}
 use Rattle.domain_desk.specs.Closing.{HasNoHandles}
 use Rattle.domain_desk.specs.Desks.{DeskState, IsKept, core_of, desk_of, plain_of}
 use Rattle.domain_desk.specs.Marks.{ShowsCommand}

@@ -1,19 +1,19 @@
 -- What a script writes.
 use Rattle.std.specs.Prelude.{ℕ, ◌≡◌, ◌≤◌, Bool, true, false, List, [], Option, Some, None}
-use Rattle.plain_state.specs.Limits.{most_cells, most_slots, most_weak_cells}
-use Rattle.plain_state.specs.declared.slot.SlotId.{SlotId}
-use Rattle.plain_state.specs.State.{empty}
-use Rattle.line_words.specs.declared.reason.Reason.{Reason}
-use Rattle.line_words.specs.declared.reason.Reason.TheVariants.{Syntax, Range, Name, Kind, NotEnabled}
-use Rattle.line_words.specs.Refused.{refused_line}
+use Rattle.script_law.specs.plain_state.Limits.{most_cells, most_slots, most_weak_cells}
+use Rattle.script_law.specs.plain_state.declared.slot.SlotId.{SlotId}
+use Rattle.script_law.specs.plain_state.State.{empty}
+use Rattle.line_machine.specs.line_words.declared.reason.Reason.{Reason}
+use Rattle.line_machine.specs.line_words.declared.reason.Reason.TheVariants.{Syntax, Range, Name, Kind, NotEnabled}
+use Rattle.line_machine.specs.line_words.Refused.{refused_line}
 use Rattle.line_machine.specs.Runs.{IsRun}
-use Rattle.script_lines.specs.declared.command.Command.{Command}
-use Rattle.script_lines.specs.declared.command.ScriptLine.TheVariants.{Heap}
-use Rattle.script_lines.specs.Spelling.{Spells, SpellsCommand}
-use Rattle.script_desk.specs.declared.said.Said.{Said}
-use Rattle.script_desk.specs.Desks.{Desk, maker_of, nobody, scope_of}
-use Rattle.script_desk.specs.Faults.{IsFault, IsFaultless}
-use Rattle.script_desk.specs.Effects.{Runs}
+use Rattle.script_law.specs.script_lines.declared.command.Command.{Command}
+use Rattle.script_law.specs.script_lines.declared.command.ScriptLine.TheVariants.{Heap}
+use Rattle.script_law.specs.script_lines.Spelling.{Spells, SpellsCommand}
+use Rattle.script_law.specs.script_desk.declared.said.Said.{Said}
+use Rattle.script_law.specs.script_desk.Desks.{Desk, maker_of, nobody, scope_of}
+use Rattle.script_law.specs.script_desk.Faults.{IsFault, IsFaultless}
+use Rattle.script_law.specs.script_desk.Effects.{Runs}
 use Rattle.cdrc_scripts.specs.SaidLines.{said_line}
 
 -- the numbers of a heap

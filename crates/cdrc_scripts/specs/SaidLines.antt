@@ -2,12 +2,12 @@
 use Rattle.std.specs.Prelude.{ℕ, ◌<◌, ◌^◌, ⊤, ◌==◌, List, [], ◌++◌, codes, string_bytes, if◌then◌else◌}
 use Rattle.std.specs.Fmt.{decimal}
 use Rattle.std.specs.List.{flat_map}
-use Rattle.cdrc_text.specs.Report.{audit_line}
-use Rattle.script_lines.specs.declared.command.Command.{Command}
-use Rattle.script_lines.specs.declared.command.Command.TheVariants as command
-use Rattle.script_desk.specs.declared.said.Said.{Said}
-use Rattle.script_desk.specs.declared.said.Said.TheVariants as said
-use Rattle.script_desk.specs.declared.said.Shown.{Shown}
+use Rattle.line_machine.specs.cdrc_text.Report.{audit_line}
+use Rattle.script_law.specs.script_lines.declared.command.Command.{Command}
+use Rattle.script_law.specs.script_lines.declared.command.Command.TheVariants as command
+use Rattle.script_law.specs.script_desk.declared.said.Said.{Said}
+use Rattle.script_law.specs.script_desk.declared.said.Said.TheVariants as said
+use Rattle.script_law.specs.script_desk.declared.said.Shown.{Shown}
 
 -- `WORD NAME ANSWER` and a line feed
 abbrev pub told : List ℕ → List ℕ → List ℕ → List ℕ

@@ -22,9 +22,12 @@ mod run;
 mod said;
 mod scripting;
 mod shown;
-#[cfg(test)]
-mod tests;
 
+pub use domain_desk::{PairKind, Seat};
 pub use laws::scripts_have_one_output;
-pub use line_machine::Written;
+pub use line_machine::{Lines, OutOfMemory, Written, words};
 pub use run::{Scripted, script};
+pub use script_law::{
+    CommandRefused, Deleter, Desk, Heap, Kind, NoLaw, PayloadKind, Said, ScriptKind, ScriptLine,
+    SlotId, SlotImage, ZERO, audit, check_walk, lawful, script_line,
+};

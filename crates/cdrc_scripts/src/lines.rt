@@ -1,18 +1,19 @@
 //! The lines of a script: the numbers of its heap, and its commands.
 ghost use Rattle.std.specs.Prelude.{◌≡◌, ◌≢◌, ℕ, [], IfOk, IfSome, Ok, Err, None};
-ghost use Rattle.line_words.specs.Words.{texts_of};
-ghost use Rattle.script_lines.specs.Spelling.{Spells, SpellsCommand};
-ghost use Rattle.script_lines.specs.declared.command.ScriptLine.TheVariants.{Heap, Command as OnHeap};
-ghost use Rattle.script_lines.specs.declared.command.Command.{Command as OneCommand};
-ghost use Rattle.script_lines.specs.declared.refused.CommandRefused.TheVariants.{Syntax};
+ghost use Rattle.line_machine.specs.line_words.Words.{texts_of};
+ghost use Rattle.script_law.specs.script_lines.Spelling.{Spells, SpellsCommand};
+ghost use Rattle.script_law.specs.script_lines.declared.command.ScriptLine.TheVariants.{Heap, Command as OnHeap};
+ghost use Rattle.script_law.specs.script_lines.declared.command.Command.{Command as OneCommand};
+ghost use Rattle.script_law.specs.script_lines.declared.refused.CommandRefused.TheVariants.{Syntax};
 ghost use Rattle.domain_desk.specs.Desks.{core_of, desk_of};
 ghost use Rattle.cdrc_scripts.specs.Domains.{IsSettledDesk};
 ghost use Rattle.cdrc_scripts.specs.Meaning.{IsHeapInRange, IsOpened};
 
 use domain_desk::DomainDesk;
-use out_of_memory::OutOfMemory;
-use plain_state::{MOST_CELLS, MOST_SLOTS, MOST_WEAK_CELLS};
-use script_lines::{Command, CommandRefused, ScriptLine, script_line};
+use line_machine::OutOfMemory;
+use script_law::{
+    Command, CommandRefused, MOST_CELLS, MOST_SLOTS, MOST_WEAK_CELLS, ScriptLine, script_line,
+};
 use std::alloc::Global;
 
 /// The numbers of a heap: its slots, strong cells and weak cells.

@@ -1,24 +1,20 @@
 //! The lines of a script, taken one by one.
 ghost use Rattle.std.specs.Prelude.{◌≡◌, ◌++◌, ℕ, Bool, List, [], Ok, None, Some, IfOk, IfErr};
-ghost use Rattle.line_words.specs.declared.reason.Reason.{Reason};
-ghost use Rattle.line_words.specs.Words.{texts_of};
-ghost use Rattle.deleter.specs.Weighing.{Weighs};
-ghost use Rattle.script_desk.specs.Desks.{scope_of};
-ghost use Rattle.script_desk.specs.Kinds.{IsScriptPayload, script_weight};
-ghost use Rattle.script_desk.specs.Faults.{IsFault};
+ghost use Rattle.line_machine.specs.line_words.declared.reason.Reason.{Reason};
+ghost use Rattle.line_machine.specs.line_words.Words.{texts_of};
+ghost use Rattle.script_law.specs.deleter.Weighing.{Weighs};
+ghost use Rattle.script_law.specs.script_desk.Desks.{scope_of};
+ghost use Rattle.script_law.specs.script_desk.Kinds.{IsScriptPayload, script_weight};
+ghost use Rattle.script_law.specs.script_desk.Faults.{IsFault};
 ghost use Rattle.domain_desk.specs.Desks.{desk_of};
 ghost use Rattle.cdrc_scripts.specs.Domains.{EndsOn, IsSettledDesk, RefusesOn, RunsOn, TakesOn};
 
 use crate::lines::{command_of, heap_numbers, open};
 use crate::said::push_said;
 use crate::scripting::ScriptMachine;
-use deleter::Deleter;
 use domain_desk::DomainDesk;
-use line_machine::LineMachine;
-use line_words::{Reason, push_refused};
-use out_of_memory::OutOfMemory;
-use script_desk::ScriptKind;
-use script_lines::{Command, CommandRefused};
+use line_machine::{LineMachine, OutOfMemory, Reason, push_refused};
+use script_law::{Command, CommandRefused, Deleter, ScriptKind};
 use std::alloc::Global;
 
 /// Runs the command, where it has no fault, and appends its line.

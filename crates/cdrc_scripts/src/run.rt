@@ -1,18 +1,14 @@
 //! The meaning of a script.
 ghost use Rattle.std.specs.Prelude.{◌≡◌, IfOk, None, IsSome, IfSome};
-ghost use Rattle.deleter.specs.Weighing.{Weighs};
-ghost use Rattle.script_desk.specs.Kinds.{IsScriptPayload, script_weight};
+ghost use Rattle.script_law.specs.deleter.Weighing.{Weighs};
+ghost use Rattle.script_law.specs.script_desk.Kinds.{IsScriptPayload, script_weight};
 ghost use Rattle.cdrc_scripts.specs.Domains.{IsClosed, IsScriptOn, IsSettledDesk};
 ghost use Rattle.cdrc_scripts.specs.Meaning.{IsScript};
 
 use crate::scripting::ScriptMachine;
-use acquire_retire::Seat;
-use deleter::Deleter;
-use domain_desk::DomainDesk;
-use line_machine::{Written, run_lines};
-use out_of_memory::OutOfMemory;
-use plain_protocol::NoLaw;
-use script_desk::ScriptKind;
+use domain_desk::{DomainDesk, Seat};
+use line_machine::{OutOfMemory, Written, run_lines};
+use script_law::{Deleter, NoLaw, ScriptKind};
 use std::alloc::Global;
 
 /// What a script wrote, whether a line was refused, and the seat of its domain, if its first line opened one.

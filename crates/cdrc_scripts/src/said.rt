@@ -4,10 +4,8 @@ ghost use Rattle.std.specs.Fmt.{decimal};
 ghost use Rattle.cdrc_scripts.specs.SaidLines.{HasSmallWord, said_line, told};
 
 use crate::shown::push_shown;
-use cdrc_text::push_number;
-use out_of_memory::OutOfMemory;
-use script_desk::Said;
-use script_lines::{Command, Name};
+use line_machine::{OutOfMemory, push_number};
+use script_law::{Command, Name, Said};
 
 /// Appends `WORD NAME ANSWER` and a line feed.
 fn push_told(text: &mut Vec<u8>, word: &[u8], name: &Name, answer: &[u8]) -> Result<(), OutOfMemory>

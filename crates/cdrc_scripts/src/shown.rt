@@ -3,9 +3,8 @@ ghost use Rattle.std.specs.Prelude.{◌≡◌, ◌++◌, OnOk, codes, string_byt
 ghost use Rattle.std.specs.List.{flat_map};
 ghost use Rattle.cdrc_scripts.specs.SaidLines.{audit_lines, numbers_line, walk_line};
 
-use cdrc_text::push_number;
-use out_of_memory::OutOfMemory;
-use script_desk::Shown;
+use line_machine::{OutOfMemory, push_number};
+use script_law::Shown;
 
 /// Appends a space and each of the names.
 fn push_names(text: &mut Vec<u8>, names: &[String]) -> Result<(), OutOfMemory>

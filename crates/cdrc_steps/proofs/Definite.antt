@@ -1,10 +1,10 @@
 -- A text of steps has one output: its lines and its end leave nothing open.
 use Rattle.std.proofs.Common.{◌≡◌, ℕ, Bool, List, Option, None, Some, refl, sym, ap, subst, ◌∙◌}
-use Rattle.core_events.specs.declared.act.Event.{Event}
-use Rattle.core_events.specs.declared.shape.Shape.{Shape}
-use Rattle.core_events.specs.Runs.{Enabled, IsShape, outcome_of}
-use Rattle.line_words.specs.declared.reason.Reason.{Reason}
-use Rattle.line_words.specs.declared.reason.Reason.TheVariants.{Syntax, Range, NotEnabled}
+use Rattle.step_lines.specs.core_events.declared.act.Event.{Event}
+use Rattle.step_lines.specs.core_events.declared.shape.Shape.{Shape}
+use Rattle.step_lines.specs.core_events.Runs.{Enabled, IsShape, outcome_of}
+use Rattle.line_machine.specs.line_words.declared.reason.Reason.{Reason}
+use Rattle.line_machine.specs.line_words.declared.reason.Reason.TheVariants.{Syntax, Range, NotEnabled}
 use Rattle.line_machine.specs.Runs.{IsDefinite}
 use Rattle.line_machine.proofs.Ones.{runs_are_one}
 use Rattle.step_lines.proofs.Unique.{one-event, one-shape}

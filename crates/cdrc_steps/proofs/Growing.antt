@@ -4,8 +4,8 @@ use Rattle.std.proofs.lemmas.List.{flat_map_more, map-id}
 use Rattle.std.proofs.lemmas.List.FromFn.{map-range_with_len_more}
 use Rattle.std.specs.List.{flat_map, range_with_len}
 use Rattle.cdrc_core.specs.State.{State}
-use Rattle.core_events.specs.declared.act.Event.{Event}
-use Rattle.core_events.specs.Runs.{after}
+use Rattle.step_lines.specs.core_events.declared.act.Event.{Event}
+use Rattle.step_lines.specs.core_events.Runs.{after}
 use Rattle.cdrc_steps.specs.Meaning.{moved_on}
 use Rattle.cdrc_steps.specs.Runnings.{Running}
 

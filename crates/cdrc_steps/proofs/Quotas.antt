@@ -3,9 +3,9 @@ use Rattle.std.proofs.Common.{◌≡◌, ◌^◌, List, [], ap, sym, subst, ◌�
 use Rattle.std.proofs.lemmas.List.{length-replicate}
 use Rattle.std.proofs.lemmas.List.Elements.{All-replicate}
 use Rattle.std.specs.List.{All}
-use Rattle.core_events.specs.declared.shape.Quota.{Quota}
-use Rattle.core_events.specs.declared.shape.Shape.{Shape}
-use Rattle.core_events.specs.Runs.{AreTerms, IsQuota}
+use Rattle.step_lines.specs.core_events.declared.shape.Quota.{Quota}
+use Rattle.step_lines.specs.core_events.declared.shape.Shape.{Shape}
+use Rattle.step_lines.specs.core_events.Runs.{AreTerms, IsQuota}
 use Rattle.cdrc_steps.specs.Meaning.{quotas_of}
 
 pub quotas_fit : (z : Shape) (qs : List Quota) → qs ≡ quotas_of z

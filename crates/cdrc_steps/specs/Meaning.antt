@@ -2,16 +2,16 @@
 use Rattle.std.specs.Prelude.{ℕ, ◌≡◌, ◌+◌, ◌^◌, ◌==◌, Bool, true, false, List, [], ◌++◌, replicate, codes, Option, Some, None, if◌then◌else◌}
 use Rattle.std.specs.Fmt.{decimal}
 use Rattle.std.specs.List.{flat_map, range_with_len}
-use Rattle.plain_state.specs.declared.slot.SlotId.{SlotId}
-use Rattle.core_events.specs.declared.act.Event.{Event}
-use Rattle.core_events.specs.declared.shape.Shape.{Shape}
-use Rattle.core_events.specs.declared.shape.Quota.{Quota}
-use Rattle.core_events.specs.Views.{Terms}
-use Rattle.core_events.specs.Counts.{free_bit, strong, weak}
-use Rattle.core_events.specs.Runs.{Core, Enabled, IsShape, after, outcome_of, start}
-use Rattle.line_words.specs.declared.reason.Reason.{Reason}
-use Rattle.line_words.specs.declared.reason.Reason.TheVariants.{Syntax, Range, NotEnabled}
-use Rattle.line_words.specs.Refused.{refused_line}
+use Rattle.step_lines.specs.plain_state.declared.slot.SlotId.{SlotId}
+use Rattle.step_lines.specs.core_events.declared.act.Event.{Event}
+use Rattle.step_lines.specs.core_events.declared.shape.Shape.{Shape}
+use Rattle.step_lines.specs.core_events.declared.shape.Quota.{Quota}
+use Rattle.step_lines.specs.core_events.Views.{Terms}
+use Rattle.step_lines.specs.core_events.Counts.{free_bit, strong, weak}
+use Rattle.step_lines.specs.core_events.Runs.{Core, Enabled, IsShape, after, outcome_of, start}
+use Rattle.line_machine.specs.line_words.declared.reason.Reason.{Reason}
+use Rattle.line_machine.specs.line_words.declared.reason.Reason.TheVariants.{Syntax, Range, NotEnabled}
+use Rattle.line_machine.specs.line_words.Refused.{refused_line}
 use Rattle.line_machine.specs.Runs.{IsRun}
 use Rattle.step_lines.specs.Spelling.{SpellsEvent, SpellsShape}
 use Rattle.step_lines.specs.Texts.{event_text}

@@ -1,13 +1,13 @@
 -- Which numbers of an event are in their ranges, in a domain of this shape.
 use Rattle.std.specs.Prelude.{◌<◌, ◌^◌, ⊤}
-use Rattle.plain_state.specs.declared.act.EventPlace.{EventPlace}
-use Rattle.plain_state.specs.declared.act.EventPlace.TheVariants.{Cell, Field, WeakCell, WeakField}
-use Rattle.plain_state.specs.declared.slot.SlotId.{SlotId}
-use Rattle.core_events.specs.declared.act.Act.{Act}
-use Rattle.core_events.specs.declared.act.Act.TheVariants as act
-use Rattle.core_events.specs.declared.act.Event.{Event}
-use Rattle.core_events.specs.declared.shape.Shape.{Shape}
-use Rattle.core_events.specs.Steps.{IsContent}
+use Rattle.step_lines.specs.plain_state.declared.act.EventPlace.{EventPlace}
+use Rattle.step_lines.specs.plain_state.declared.act.EventPlace.TheVariants.{Cell, Field, WeakCell, WeakField}
+use Rattle.step_lines.specs.plain_state.declared.slot.SlotId.{SlotId}
+use Rattle.step_lines.specs.core_events.declared.act.Act.{Act}
+use Rattle.step_lines.specs.core_events.declared.act.Act.TheVariants as act
+use Rattle.step_lines.specs.core_events.declared.act.Event.{Event}
+use Rattle.step_lines.specs.core_events.declared.shape.Shape.{Shape}
+use Rattle.step_lines.specs.core_events.Steps.{IsContent}
 
 abbrev pub HasSlot : Shape → SlotId → Type 0
 HasSlot z s = s.0 < z.slots

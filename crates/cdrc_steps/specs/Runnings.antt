@@ -1,7 +1,7 @@
 -- A core on the way.
 use Rattle.std.specs.Prelude.{ℕ}
-use Rattle.core_events.specs.declared.shape.Shape.{Shape}
-use Rattle.core_events.specs.Runs.{Core}
+use Rattle.step_lines.specs.core_events.declared.shape.Shape.{Shape}
+use Rattle.step_lines.specs.core_events.Runs.{Core}
 
 -- a core, its shape, and how many events it made
 pub record Running : Type 0 where

@@ -3,9 +3,8 @@ ghost use Rattle.std.specs.Prelude.{◌≡◌, ◌<◌, ◌++◌, OnOk};
 ghost use Rattle.cdrc_steps.specs.Meaning.{closing, slot_line};
 
 use crate::running::Running;
-use cdrc_text::push_number;
-use core_events::SlotId;
-use out_of_memory::OutOfMemory;
+use cdrc_core::SlotId;
+use line_machine::{OutOfMemory, push_number};
 
 impl Running {
     /// Appends the line of a slot that isn't free.

@@ -24,12 +24,13 @@ mod machine;
 mod opening;
 mod ranges;
 mod running;
-#[cfg(test)]
-mod tests;
-#[cfg(test)]
-mod tests_disposal;
 mod text;
 
+pub use cdrc_core::{
+    Act, Core, Event, EventPlace, Kind, Note, Outcome, OwnView, Phase, Quota, ReplayError, Shape,
+    ShapeField, SlotId, StartError, StepError,
+};
 pub use laws::steps_write_one;
-pub use line_machine::Written;
+pub use line_machine::{Lines, Written, words};
+pub use step_lines::{decode, encode, event_line, push_event};
 pub use text::steps;

@@ -1,16 +1,14 @@
 //! The lines of a text of steps, taken one by one.
 ghost use Rattle.std.specs.Prelude.{◌≡◌, ◌++◌, [], ℕ, List, Ok, None, Some};
-ghost use Rattle.line_words.specs.declared.reason.Reason.{Reason};
-ghost use Rattle.line_words.specs.Words.{texts_of};
+ghost use Rattle.line_machine.specs.line_words.declared.reason.Reason.{Reason};
+ghost use Rattle.line_machine.specs.line_words.Words.{texts_of};
 ghost use Rattle.cdrc_steps.specs.Meaning.{Ends, Refuses, Takes};
 
 use crate::opening::open;
 use crate::ranges::is_in_range;
 use crate::running::{Running, StepMachine};
 use cdrc_core::StepError;
-use line_machine::LineMachine;
-use line_words::{Reason, push_refused};
-use out_of_memory::OutOfMemory;
+use line_machine::{LineMachine, OutOfMemory, Reason, push_refused};
 use std::alloc::Global;
 use step_lines::{EventRefused, event_line, push_event, shape_line};
 

@@ -1,12 +1,11 @@
 //! The first line of a text of steps.
 ghost use Rattle.std.specs.Prelude.{◌≡◌, IfOk, IfSome, Ok, None};
-ghost use Rattle.core_events.specs.Runs.{IsShape};
+ghost use Rattle.step_lines.specs.core_events.Runs.{IsShape};
 ghost use Rattle.cdrc_steps.specs.Meaning.{opened};
 
 use crate::running::Running;
-use cdrc_core::{Core, StartError};
-use core_events::{Quota, Shape};
-use out_of_memory::OutOfMemory;
+use cdrc_core::{Core, Quota, Shape, StartError};
+use line_machine::OutOfMemory;
 use std::alloc::Global;
 
 /// What each seat may use up.

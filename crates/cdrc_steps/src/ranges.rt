@@ -2,8 +2,7 @@
 ghost use Rattle.std.specs.Prelude.{◌↔◌, IsTrue};
 ghost use Rattle.cdrc_steps.specs.Ranges.{HasNumbersOf, HasPlace, HasSlot, IsInRange};
 
-use core_events::{Act, Event, EventPlace, Shape, SlotId};
-use core_functions::is_content;
+use cdrc_core::{Act, Event, EventPlace, Shape, SlotId, is_content};
 
 fn has_slot(shape: &Shape, slot: SlotId) -> bool
     ensures { IsTrue result ↔ HasSlot shape.now slot }

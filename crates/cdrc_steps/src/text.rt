@@ -3,8 +3,7 @@ ghost use Rattle.std.specs.Prelude.{◌≡◌, IfOk};
 ghost use Rattle.cdrc_steps.specs.Meaning.{IsSteps};
 
 use crate::running::StepMachine;
-use line_machine::{Written, run_lines};
-use out_of_memory::OutOfMemory;
+use line_machine::{OutOfMemory, Written, run_lines};
 use std::alloc::Global;
 
 /// What the text of steps writes. The first line with words is `shape SEATS SLOTS CELLS WEAKCELLS BATCH`, and each

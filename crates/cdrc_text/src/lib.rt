@@ -24,8 +24,6 @@ mod lines;
 mod places;
 mod row;
 mod tally;
-#[cfg(test)]
-mod tests;
 
 pub use crate::cut::pieces;
 pub use crate::error::PiecesError;
@@ -34,3 +32,4 @@ pub use crate::lines::{push_number, report};
 pub use crate::places::Pieces;
 pub use crate::row::{AuditLine, Row, Totals};
 pub use crate::tally::Tally;
+pub use out_of_memory::{Back, OutOfMemory};

@@ -4,32 +4,32 @@ use Rattle.std.specs.Prelude.{slice_index, ◌==◌, Option, Some, if◌then◌e
 use Rattle.std.proofs.lemmas.List.{get_or-set_other, set-get_or}
 use Rattle.std.proofs.lemmas.Bool.{cases_eq}
 use Rattle.std.proofs.lemmas.Bool.Decides.{nat_tests}
-use Rattle.plain_state.specs.declared.slot.Kind.{Kind}
-use Rattle.plain_state.specs.declared.slot.SlotId.{SlotId}
-use Rattle.plain_state.specs.Lists.{Entry, times}
-use Rattle.core_events.specs.declared.act.Act.{Act}
-use Rattle.core_events.specs.declared.act.Act.TheVariants as act
-use Rattle.core_events.specs.declared.outcome.Outcome.TheVariants as outcome
-use Rattle.core_events.specs.declared.shape.Shape.{Shape}
-use Rattle.core_events.specs.declared.view.CoreView.{CoreView}
-use Rattle.core_events.specs.declared.view.Phase.TheVariants as phase
-use Rattle.core_events.specs.Counts.{free_bit, giving}
-use Rattle.core_events.specs.Good.{SeatLaw}
-use Rattle.core_events.specs.Runs.{Core, after, found, view_at}
-use Rattle.core_events.specs.Steps.{May, counter_at, moved, next, owed_at, place, plus_one}
-use Rattle.core_events.specs.Views.{Holds, of_slot, slot_of}
-use Rattle.core_events.specs.Words.{bit_alone, bit_in, bits_at, payload_at, strong_at, ticket_at, weak_at}
-use Rattle.core_law.specs.Sound.{Sound}
-use Rattle.core_law.specs.Slots.{numbers}
-use Rattle.core_law.proofs.Bits.{bit_most, bits_bound, bits_off, bits_other, given_other, taken_other}
-use Rattle.core_law.proofs.Held.{held_named}
-use Rattle.core_law.proofs.InRange.{open_in_range, owed_named, phase_there, put_in_range}
-use Rattle.core_law.proofs.Kit.{one_same, slot_cases, times_push, total_at, total_set}
-use Rattle.core_law.proofs.Phases.{in_give}
-use Rattle.core_law.proofs.Put.{at_seat}
-use Rattle.core_law.proofs.Steady.{named_in_range}
-use Rattle.core_law.proofs.Writes.{OffBits, place_off_bits}
-use Rattle.core_law.proofs.Live.{giver_clear}
+use Rattle.core_promises.specs.plain_state.declared.slot.Kind.{Kind}
+use Rattle.core_promises.specs.plain_state.declared.slot.SlotId.{SlotId}
+use Rattle.core_promises.specs.plain_state.Lists.{Entry, times}
+use Rattle.core_promises.specs.core_events.declared.act.Act.{Act}
+use Rattle.core_promises.specs.core_events.declared.act.Act.TheVariants as act
+use Rattle.core_promises.specs.core_events.declared.outcome.Outcome.TheVariants as outcome
+use Rattle.core_promises.specs.core_events.declared.shape.Shape.{Shape}
+use Rattle.core_promises.specs.core_events.declared.view.CoreView.{CoreView}
+use Rattle.core_promises.specs.core_events.declared.view.Phase.TheVariants as phase
+use Rattle.core_promises.specs.core_events.Counts.{free_bit, giving}
+use Rattle.core_promises.specs.core_events.Good.{SeatLaw}
+use Rattle.core_promises.specs.core_events.Runs.{Core, after, found, view_at}
+use Rattle.core_promises.specs.core_events.Steps.{May, counter_at, moved, next, owed_at, place, plus_one}
+use Rattle.core_promises.specs.core_events.Views.{Holds, of_slot, slot_of}
+use Rattle.core_promises.specs.core_events.Words.{bit_alone, bit_in, bits_at, payload_at, strong_at, ticket_at, weak_at}
+use Rattle.core_promises.specs.core_law.Sound.{Sound}
+use Rattle.core_promises.specs.core_law.Slots.{numbers}
+use Rattle.core_promises.proofs.Below.core_law.Bits.{bit_most, bits_bound, bits_off, bits_other, given_other, taken_other}
+use Rattle.core_promises.proofs.Below.core_law.Held.{held_named}
+use Rattle.core_promises.proofs.Below.core_law.InRange.{open_in_range, owed_named, phase_there, put_in_range}
+use Rattle.core_promises.proofs.Below.core_law.Kit.{one_same, slot_cases, times_push, total_at, total_set}
+use Rattle.core_promises.proofs.Below.core_law.Phases.{in_give}
+use Rattle.core_promises.proofs.Below.core_law.Put.{at_seat}
+use Rattle.core_promises.proofs.Below.core_law.Steady.{named_in_range}
+use Rattle.core_promises.proofs.Below.core_law.Writes.{OffBits, place_off_bits}
+use Rattle.core_promises.proofs.Below.core_law.Live.{giver_clear}
 use Rattle.claim_law.specs.Claims.{claimed, claims}
 use Rattle.claim_law.proofs.Going.{claims_go, won}
 

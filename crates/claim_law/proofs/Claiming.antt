@@ -1,20 +1,20 @@
 -- Slots are claimed as often as makes are used, and what was claimed stays so.
 use Rattle.std.proofs.Common.{◌≡◌, ℕ, ◌+◌, ◌≤◌, List, [], ◌++◌, length, refl, ap, arith, length-append}
-use Rattle.plain_state.specs.declared.slot.SlotId.{SlotId}
-use Rattle.plain_state.specs.Lists.{times}
-use Rattle.core_events.specs.declared.act.Act.{Act}
-use Rattle.core_events.specs.declared.act.Event.{Event}
-use Rattle.core_events.specs.declared.shape.Shape.{Shape}
-use Rattle.core_events.specs.declared.view.CoreView.{CoreView}
-use Rattle.core_events.specs.Counts.{total}
-use Rattle.core_events.specs.Runs.{AreTerms, Core, Enabled, History, IsShape, after, found, view_at}
-use Rattle.core_events.specs.Shows.{filled}
-use Rattle.core_events.specs.Steps.{CanLeave, answer, moved}
-use Rattle.core_events.specs.Views.{Terms, alone}
-use Rattle.core_law.specs.Sound.{Sound}
-use Rattle.core_law.proofs.Kit.{times_append, times_none}
-use Rattle.core_law.proofs.Starts.{total_none}
-use Rattle.core_law.proofs.Bridge.{total_zero}
+use Rattle.core_promises.specs.plain_state.declared.slot.SlotId.{SlotId}
+use Rattle.core_promises.specs.plain_state.Lists.{times}
+use Rattle.core_promises.specs.core_events.declared.act.Act.{Act}
+use Rattle.core_promises.specs.core_events.declared.act.Event.{Event}
+use Rattle.core_promises.specs.core_events.declared.shape.Shape.{Shape}
+use Rattle.core_promises.specs.core_events.declared.view.CoreView.{CoreView}
+use Rattle.core_promises.specs.core_events.Counts.{total}
+use Rattle.core_promises.specs.core_events.Runs.{AreTerms, Core, Enabled, History, IsShape, after, found, view_at}
+use Rattle.core_promises.specs.core_events.Shows.{filled}
+use Rattle.core_promises.specs.core_events.Steps.{CanLeave, answer, moved}
+use Rattle.core_promises.specs.core_events.Views.{Terms, alone}
+use Rattle.core_promises.specs.core_law.Sound.{Sound}
+use Rattle.core_promises.proofs.Below.core_law.Kit.{times_append, times_none}
+use Rattle.core_promises.proofs.Below.core_law.Starts.{total_none}
+use Rattle.core_promises.proofs.Below.core_law.Bridge.{total_zero}
 use Rattle.claim_law.specs.Claims.{claimed, claims, makes_used}
 use Rattle.claim_law.proofs.Going.{claims_go, grows, won}
 use Rattle.claim_law.proofs.Totals.{LagsLeft, SumLags, always_lags, sum_lags}

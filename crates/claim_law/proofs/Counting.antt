@@ -2,12 +2,12 @@
 use Rattle.std.proofs.Common.{◌≡◌, ⊎_elim, ℕ, zero, suc, ◌+◌, ◌<◌, ◌≤◌, List, [], ◌∷◌, length, get_or, refl, arith}
 use Rattle.std.proofs.lemmas.Bool.{cases_lt}
 use Rattle.std.proofs.lemmas.List.Sums.{sum_by-cons}
-use Rattle.plain_state.specs.declared.slot.SlotId.{SlotId}
-use Rattle.plain_state.specs.Lists.{times}
-use Rattle.core_events.specs.declared.view.CoreView.{CoreView}
-use Rattle.core_events.specs.Views.{no_view}
-use Rattle.core_events.specs.Counts.{one, sum_below, total}
-use Rattle.core_law.proofs.Kit.{below_none, one_other, times_cons, times_none}
+use Rattle.core_promises.specs.plain_state.declared.slot.SlotId.{SlotId}
+use Rattle.core_promises.specs.plain_state.Lists.{times}
+use Rattle.core_promises.specs.core_events.declared.view.CoreView.{CoreView}
+use Rattle.core_promises.specs.core_events.Views.{no_view}
+use Rattle.core_promises.specs.core_events.Counts.{one, sum_below, total}
+use Rattle.core_promises.proofs.Below.core_law.Kit.{below_none, one_other, times_cons, times_none}
 
 pub total_cons : (f : CoreView → ℕ) (v : CoreView) (vs : List CoreView)
     → total f (v ∷ vs) ≡ f v + total f vs

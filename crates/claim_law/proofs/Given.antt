@@ -2,23 +2,23 @@
 use Rattle.std.proofs.Common.{◌≡◌, ℕ, ◌+◌, ◌<◌, ◌≤◌, Bool, true, false, List, [], ◌∷◌, refl, ap, sym, ◌∙◌, subst, arith}
 use Rattle.std.specs.Prelude.{if◌then◌else◌, sum_by}
 use Rattle.std.proofs.lemmas.List.Sums.{sum_by-cons, sum_by_push}
-use Rattle.core_events.specs.declared.act.Act.{Act}
-use Rattle.core_events.specs.declared.act.Event.{Event}
-use Rattle.core_events.specs.declared.shape.Shape.{Shape}
-use Rattle.core_events.specs.declared.shape.Quota.{Quota}
-use Rattle.core_events.specs.declared.view.CoreView.{CoreView}
-use Rattle.core_events.specs.declared.view.LeftSeat.{LeftSeat}
-use Rattle.core_events.specs.Counts.{total}
-use Rattle.core_events.specs.Runs.{AreTerms, Core, Enabled, History, IsShape, after, found, view_at}
-use Rattle.core_events.specs.Steps.{HasMake, moved}
-use Rattle.core_events.specs.Views.{Terms, first_view, first_views, granted}
-use Rattle.core_law.specs.Sound.{Sound}
-use Rattle.core_law.proofs.Starts.{first_at, length_views}
-use Rattle.core_law.proofs.Always.{history_sound}
-use Rattle.core_law.proofs.Grants.{history_grants}
-use Rattle.core_law.proofs.Trails.{changed_trail}
-use Rattle.core_law.proofs.Bridge.{total_zero}
-use Rattle.core_law.proofs.Lists.{total_plus}
+use Rattle.core_promises.specs.core_events.declared.act.Act.{Act}
+use Rattle.core_promises.specs.core_events.declared.act.Event.{Event}
+use Rattle.core_promises.specs.core_events.declared.shape.Shape.{Shape}
+use Rattle.core_promises.specs.core_events.declared.shape.Quota.{Quota}
+use Rattle.core_promises.specs.core_events.declared.view.CoreView.{CoreView}
+use Rattle.core_promises.specs.core_events.declared.view.LeftSeat.{LeftSeat}
+use Rattle.core_promises.specs.core_events.Counts.{total}
+use Rattle.core_promises.specs.core_events.Runs.{AreTerms, Core, Enabled, History, IsShape, after, found, view_at}
+use Rattle.core_promises.specs.core_events.Steps.{HasMake, moved}
+use Rattle.core_promises.specs.core_events.Views.{Terms, first_view, first_views, granted}
+use Rattle.core_promises.specs.core_law.Sound.{Sound}
+use Rattle.core_promises.proofs.Below.core_law.Starts.{first_at, length_views}
+use Rattle.core_promises.proofs.Below.core_law.Always.{history_sound}
+use Rattle.core_promises.proofs.Below.core_law.Grants.{history_grants}
+use Rattle.core_promises.proofs.Below.core_law.Trails.{changed_trail}
+use Rattle.core_promises.proofs.Below.core_law.Bridge.{total_zero}
+use Rattle.core_promises.proofs.Below.core_law.Lists.{total_plus}
 use Rattle.claim_law.specs.Claims.{makes_given, makes_used}
 use Rattle.claim_law.proofs.Counting.{EachMost, total_cons, total_gap, total_most, total_nil}
 use Rattle.claim_law.proofs.Going.{grows}

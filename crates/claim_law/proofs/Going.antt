@@ -1,14 +1,14 @@
 -- What an event adds to the slots that its seat has claimed, to its makes and to its tickets.
 use Rattle.std.proofs.Common.{◌≡◌, ℕ, ◌+◌, List, [], ◌∷◌, ◌++◌, length, arith}
 use Rattle.std.proofs.lemmas.List.{append-nil}
-use Rattle.plain_state.specs.declared.slot.SlotId.{SlotId}
-use Rattle.core_events.specs.declared.act.Act.{Act}
-use Rattle.core_events.specs.declared.act.Act.TheVariants as act
-use Rattle.core_events.specs.declared.outcome.Outcome.{Outcome}
-use Rattle.core_events.specs.declared.outcome.Outcome.TheVariants as outcome
-use Rattle.core_events.specs.declared.shape.Shape.{Shape}
-use Rattle.core_events.specs.declared.view.CoreView.{CoreView}
-use Rattle.core_events.specs.Steps.{May, answer, changed}
+use Rattle.core_promises.specs.plain_state.declared.slot.SlotId.{SlotId}
+use Rattle.core_promises.specs.core_events.declared.act.Act.{Act}
+use Rattle.core_promises.specs.core_events.declared.act.Act.TheVariants as act
+use Rattle.core_promises.specs.core_events.declared.outcome.Outcome.{Outcome}
+use Rattle.core_promises.specs.core_events.declared.outcome.Outcome.TheVariants as outcome
+use Rattle.core_promises.specs.core_events.declared.shape.Shape.{Shape}
+use Rattle.core_promises.specs.core_events.declared.view.CoreView.{CoreView}
+use Rattle.core_promises.specs.core_events.Steps.{May, answer, changed}
 use Rattle.claim_law.specs.Claims.{claimed}
 
 -- the slot that an act claims, by what it answers

@@ -1,3 +1,4 @@
+pub mod Below
 pub mod Going
 pub mod Totals
 pub mod Counting

@@ -2,13 +2,13 @@
 use Rattle.std.proofs.Common.{◌≡◌, ℕ, ◌+◌, ◌≤◌, List, [], ◌∷◌, ◌++◌, refl, sum, ◌∙◌, arith}
 use Rattle.std.specs.Prelude.{◌==◌, cond, slice_index_or, sum_by}
 use Rattle.std.proofs.lemmas.List.Sums.{sum_by-append, sum_by-cons}
-use Rattle.core_events.specs.declared.shape.Shape.{Shape}
-use Rattle.core_events.specs.declared.view.CoreView.{CoreView}
-use Rattle.core_events.specs.declared.view.LeftSeat.{LeftSeat}
-use Rattle.core_events.specs.Counts.{adds_used, number_times, ticket_times, total}
-use Rattle.core_events.specs.Good.{TicketLaw}
-use Rattle.core_events.specs.Runs.{Core}
-use Rattle.core_events.specs.Views.{granted, no_view}
+use Rattle.core_promises.specs.core_events.declared.shape.Shape.{Shape}
+use Rattle.core_promises.specs.core_events.declared.view.CoreView.{CoreView}
+use Rattle.core_promises.specs.core_events.declared.view.LeftSeat.{LeftSeat}
+use Rattle.core_promises.specs.core_events.Counts.{adds_used, number_times, ticket_times, total}
+use Rattle.core_promises.specs.core_events.Good.{TicketLaw}
+use Rattle.core_promises.specs.core_events.Runs.{Core}
+use Rattle.core_promises.specs.core_events.Views.{granted, no_view}
 use Rattle.core_promises.proofs.Granted.{seat_granted}
 use Rattle.claim_law.proofs.Counting.{total_cons, total_nil}
 

@@ -3,25 +3,25 @@ use Rattle.std.proofs.Common.{◌≡◌, ◌≢◌, ◌⊎◌, inl, inr, ⊎_eli
 use Rattle.std.specs.Prelude.{slice_index, ◌==◌, if◌then◌else◌}
 use Rattle.std.proofs.lemmas.List.{get_or-set_same, get_or-set_other}
 use Rattle.std.proofs.lemmas.Bool.{cases_eq}
-use Rattle.plain_state.specs.declared.slot.SlotId.{SlotId}
-use Rattle.core_events.specs.declared.act.Act.{Act}
-use Rattle.core_events.specs.declared.act.Act.TheVariants as act
-use Rattle.core_events.specs.declared.act.Event.{Event}
-use Rattle.core_events.specs.declared.outcome.Outcome.TheVariants as outcome
-use Rattle.core_events.specs.declared.shape.Shape.{Shape}
-use Rattle.core_events.specs.declared.view.CoreView.{CoreView}
-use Rattle.core_events.specs.declared.view.Move.{Move}
-use Rattle.core_events.specs.Counts.{free_bit}
-use Rattle.core_events.specs.Runs.{AreTerms, Core, Enabled, History, IsShape, after, found, view_at}
-use Rattle.core_events.specs.Steps.{answer, moved}
-use Rattle.core_events.specs.Views.{Terms, no_view}
-use Rattle.core_events.specs.Words.{bit_in, bits_at}
-use Rattle.core_law.specs.Sound.{Sound}
-use Rattle.core_law.proofs.FirstWords.{bit_first}
-use Rattle.core_law.proofs.Starts.{first_trail}
-use Rattle.core_law.proofs.Joined as joined
-use Rattle.core_law.proofs.Always.{history_sound, is_leave}
-use Rattle.core_law.proofs.Trails.{changed_trail, views_plain}
+use Rattle.core_promises.specs.plain_state.declared.slot.SlotId.{SlotId}
+use Rattle.core_promises.specs.core_events.declared.act.Act.{Act}
+use Rattle.core_promises.specs.core_events.declared.act.Act.TheVariants as act
+use Rattle.core_promises.specs.core_events.declared.act.Event.{Event}
+use Rattle.core_promises.specs.core_events.declared.outcome.Outcome.TheVariants as outcome
+use Rattle.core_promises.specs.core_events.declared.shape.Shape.{Shape}
+use Rattle.core_promises.specs.core_events.declared.view.CoreView.{CoreView}
+use Rattle.core_promises.specs.core_events.declared.view.Move.{Move}
+use Rattle.core_promises.specs.core_events.Counts.{free_bit}
+use Rattle.core_promises.specs.core_events.Runs.{AreTerms, Core, Enabled, History, IsShape, after, found, view_at}
+use Rattle.core_promises.specs.core_events.Steps.{answer, moved}
+use Rattle.core_promises.specs.core_events.Views.{Terms, no_view}
+use Rattle.core_promises.specs.core_events.Words.{bit_in, bits_at}
+use Rattle.core_promises.specs.core_law.Sound.{Sound}
+use Rattle.core_promises.proofs.Below.core_law.FirstWords.{bit_first}
+use Rattle.core_promises.proofs.Below.core_law.Starts.{first_trail}
+use Rattle.core_promises.proofs.Below.core_law.Joined as joined
+use Rattle.core_promises.proofs.Below.core_law.Always.{history_sound, is_leave}
+use Rattle.core_promises.proofs.Below.core_law.Trails.{changed_trail, views_plain}
 use Rattle.claim_law.specs.Claims.{ShownBy, ShowsTaken, claims}
 use Rattle.claim_law.proofs.Bits.{clears}
 use Rattle.claim_law.proofs.Claiming.{claims_stay}

@@ -1,11 +1,11 @@
 -- Where a trail shows each slot taken, more makes were given than there are slots.
 use Rattle.std.proofs.Common.{◌≡◌, ℕ, ◌<◌, false, List, arith}
-use Rattle.plain_state.specs.declared.slot.SlotId.{SlotId}
-use Rattle.core_events.specs.declared.act.Event.{Event}
-use Rattle.core_events.specs.declared.shape.Shape.{Shape}
-use Rattle.core_events.specs.Runs.{AreTerms, Core, History, IsShape, view_at}
-use Rattle.core_events.specs.Steps.{HasMake}
-use Rattle.core_events.specs.Views.{Terms}
+use Rattle.core_promises.specs.plain_state.declared.slot.SlotId.{SlotId}
+use Rattle.core_promises.specs.core_events.declared.act.Event.{Event}
+use Rattle.core_promises.specs.core_events.declared.shape.Shape.{Shape}
+use Rattle.core_promises.specs.core_events.Runs.{AreTerms, Core, History, IsShape, view_at}
+use Rattle.core_promises.specs.core_events.Steps.{HasMake}
+use Rattle.core_promises.specs.core_events.Views.{Terms}
 use Rattle.claim_law.specs.Claims.{ShowsTaken, claimed, claims, makes_given}
 use Rattle.claim_law.proofs.Claiming.{claims_are_makes}
 use Rattle.claim_law.proofs.Counting.{below_each, lists_below}

@@ -1,24 +1,24 @@
 -- What an event does to a sum over all seats.
 use Rattle.std.proofs.Common.{◌≡◌, ◌≢◌, ⊎_elim, ℕ, ◌+◌, ◌<◌, ◌≤◌, false, List, [], ◌∷◌, set, ap, sym, ◌∙◌, subst, arith}
 use Rattle.std.proofs.lemmas.List.{length-set, get_or-set_other}
-use Rattle.plain_state.specs.State.{PlainSeat}
-use Rattle.core_events.specs.declared.act.Act.{Act}
-use Rattle.core_events.specs.declared.act.Act.TheVariants as act
-use Rattle.core_events.specs.declared.act.Event.{Event}
-use Rattle.core_events.specs.declared.outcome.Outcome.TheVariants as outcome
-use Rattle.core_events.specs.declared.shape.Shape.{Shape}
-use Rattle.core_events.specs.declared.view.CoreView.{CoreView}
-use Rattle.core_events.specs.Counts.{total}
-use Rattle.core_events.specs.Runs.{AreTerms, Core, Enabled, History, IsShape, after, found, left_behind, start, taken_over, view_at}
-use Rattle.core_events.specs.Steps.{CanLeave, moved, noted}
-use Rattle.core_events.specs.Views.{Terms, no_view}
-use Rattle.core_law.specs.Sound.{Sound}
-use Rattle.core_law.proofs.Joined as joined
-use Rattle.core_law.proofs.Kit.{total_set}
-use Rattle.core_law.proofs.Always.{history_sound, is_leave}
-use Rattle.core_law.proofs.Trails.{views_plain}
-use Rattle.core_law.proofs.Bridge.{shown_seat}
-use Rattle.core_law.proofs.Seats.{enabled_seat}
+use Rattle.core_promises.specs.plain_state.State.{PlainSeat}
+use Rattle.core_promises.specs.core_events.declared.act.Act.{Act}
+use Rattle.core_promises.specs.core_events.declared.act.Act.TheVariants as act
+use Rattle.core_promises.specs.core_events.declared.act.Event.{Event}
+use Rattle.core_promises.specs.core_events.declared.outcome.Outcome.TheVariants as outcome
+use Rattle.core_promises.specs.core_events.declared.shape.Shape.{Shape}
+use Rattle.core_promises.specs.core_events.declared.view.CoreView.{CoreView}
+use Rattle.core_promises.specs.core_events.Counts.{total}
+use Rattle.core_promises.specs.core_events.Runs.{AreTerms, Core, Enabled, History, IsShape, after, found, left_behind, start, taken_over, view_at}
+use Rattle.core_promises.specs.core_events.Steps.{CanLeave, moved, noted}
+use Rattle.core_promises.specs.core_events.Views.{Terms, no_view}
+use Rattle.core_promises.specs.core_law.Sound.{Sound}
+use Rattle.core_promises.proofs.Below.core_law.Joined as joined
+use Rattle.core_promises.proofs.Below.core_law.Kit.{total_set}
+use Rattle.core_promises.proofs.Below.core_law.Always.{history_sound, is_leave}
+use Rattle.core_promises.proofs.Below.core_law.Trails.{views_plain}
+use Rattle.core_promises.proofs.Below.core_law.Bridge.{shown_seat}
+use Rattle.core_promises.proofs.Below.core_law.Seats.{enabled_seat}
 
 -- f grows by no more than g does
 abbrev pub Lags : (CoreView → ℕ) → (CoreView → ℕ) → CoreView → CoreView → Type 0

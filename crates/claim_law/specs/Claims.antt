@@ -1,19 +1,19 @@
 -- Which slots the seats have claimed, how many makes they were given, and what a trail shows.
 use Rattle.std.specs.Prelude.{ℕ, ◌≡◌, ◌⊎◌, ◌+◌, ◌/◌, List, [], ◌∷◌, ◌++◌, sum, sum_by}
-use Rattle.plain_state.specs.declared.slot.SlotId.{SlotId}
-use Rattle.plain_state.specs.Lists.{times}
-use Rattle.core_events.specs.declared.act.Act.{Act}
-use Rattle.core_events.specs.declared.act.Act.TheVariants as act
-use Rattle.core_events.specs.declared.outcome.Outcome.{Outcome}
-use Rattle.core_events.specs.declared.outcome.Outcome.TheVariants as outcome
-use Rattle.core_events.specs.declared.shape.Quota.{Quota}
-use Rattle.core_events.specs.declared.view.CoreView.{CoreView}
-use Rattle.core_events.specs.declared.view.Move.{Move}
-use Rattle.core_events.specs.Counts.{total}
-use Rattle.core_events.specs.Runs.{Core}
-use Rattle.core_events.specs.Shows.{filled}
-use Rattle.core_events.specs.Views.{Terms, alone}
-use Rattle.core_events.specs.Words.{bit_in}
+use Rattle.core_promises.specs.plain_state.declared.slot.SlotId.{SlotId}
+use Rattle.core_promises.specs.plain_state.Lists.{times}
+use Rattle.core_promises.specs.core_events.declared.act.Act.{Act}
+use Rattle.core_promises.specs.core_events.declared.act.Act.TheVariants as act
+use Rattle.core_promises.specs.core_events.declared.outcome.Outcome.{Outcome}
+use Rattle.core_promises.specs.core_events.declared.outcome.Outcome.TheVariants as outcome
+use Rattle.core_promises.specs.core_events.declared.shape.Quota.{Quota}
+use Rattle.core_promises.specs.core_events.declared.view.CoreView.{CoreView}
+use Rattle.core_promises.specs.core_events.declared.view.Move.{Move}
+use Rattle.core_promises.specs.core_events.Counts.{total}
+use Rattle.core_promises.specs.core_events.Runs.{Core}
+use Rattle.core_promises.specs.core_events.Shows.{filled}
+use Rattle.core_promises.specs.core_events.Views.{Terms, alone}
+use Rattle.core_promises.specs.core_events.Words.{bit_in}
 
 -- the slots that a seat has claimed, an entry for each time: those that it made live, and the one
 -- that it is making

@@ -1,13 +1,13 @@
 //! Laws about claims and makes, of every state that has a history.
 ghost use Rattle.std.specs.Prelude.{ℕ, ◌≡◌, ◌<◌, ◌≤◌, false, List, length};
-ghost use Rattle.plain_state.specs.declared.slot.SlotId.{SlotId};
-ghost use Rattle.core_events.specs.declared.act.Event.{Event};
-ghost use Rattle.core_events.specs.declared.shape.Shape.{Shape};
-ghost use Rattle.core_events.specs.declared.view.CoreView.{CoreView};
-ghost use Rattle.core_events.specs.Counts.{free_bit, total};
-ghost use Rattle.core_events.specs.Runs.{AreTerms, Core, History, IsShape, view_at};
-ghost use Rattle.core_events.specs.Steps.{HasMake};
-ghost use Rattle.core_events.specs.Views.{Terms};
+ghost use Rattle.core_promises.specs.plain_state.declared.slot.SlotId.{SlotId};
+ghost use Rattle.core_promises.specs.core_events.declared.act.Event.{Event};
+ghost use Rattle.core_promises.specs.core_events.declared.shape.Shape.{Shape};
+ghost use Rattle.core_promises.specs.core_events.declared.view.CoreView.{CoreView};
+ghost use Rattle.core_promises.specs.core_events.Counts.{free_bit, total};
+ghost use Rattle.core_promises.specs.core_events.Runs.{AreTerms, Core, History, IsShape, view_at};
+ghost use Rattle.core_promises.specs.core_events.Steps.{HasMake};
+ghost use Rattle.core_promises.specs.core_events.Views.{Terms};
 ghost use Rattle.claim_law.specs.Claims.{ShowsTaken, claimed, claims, makes_given, makes_used};
 
 /// The seats have claimed slots exactly as often as they have used makes.

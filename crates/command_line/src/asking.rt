@@ -12,7 +12,7 @@ use crate::numbers::number_within;
 use crate::options::lanes;
 use crate::settings::settings_of;
 use clap::ArgMatches;
-use out_of_memory::OutOfMemory;
+use line_words::OutOfMemory;
 use run_requests::{Bulk, Draws, Request, WordsArgs};
 use std::alloc::Global;
 

@@ -35,7 +35,8 @@ mod matching;
 mod numbers;
 mod options;
 mod settings;
-#[cfg(test)]
-mod tests;
 
 pub use crate::asking::request;
+pub use line_words::{OutOfMemory, Tally, generate};
+pub use plain_state::PayloadKind;
+pub use run_requests::{Bulk, Draws, Request, WordsArgs};

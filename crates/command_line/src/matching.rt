@@ -12,7 +12,7 @@ ghost use Rattle.command_line.specs.Parts.{IsLine, Part, Text};
 
 use clap::error::ErrorKind;
 use clap::{Arg, ArgAction, ArgMatches, Command};
-use out_of_memory::OutOfMemory;
+use line_words::OutOfMemory;
 use std::alloc::{AllocError, Global};
 
 /// An option: each use has one value. A second use isn't refused here but is one more value, as a second operand is.

@@ -1,25 +1,25 @@
 -- One step, and several in turn, by what they answered: what the seat has come to have.
 use Rattle.std.proofs.Common.{◌≡◌, ℕ, Bool, List, [], ◌∷◌, ◌++◌, refl, ap, sym, ◌∙◌, subst, append_assoc}
 use Rattle.std.specs.Prelude.{slice_index_or}
-use Rattle.plain_state.specs.declared.act.PlainAct.{PlainAct}
-use Rattle.plain_state.specs.declared.slot.SlotId.{SlotId}
-use Rattle.plain_state.specs.Lists.{Entry}
-use Rattle.plain_state.specs.State.{Plain}
-use Rattle.plain_protocol.specs.Owns.{HasSlot, Object, OwnPart}
-use Rattle.core_events.specs.declared.act.Act.{Act}
-use Rattle.core_events.specs.declared.outcome.Outcome.{Outcome}
-use Rattle.core_events.specs.declared.shape.Shape.{Shape}
-use Rattle.core_events.specs.declared.view.CoreView.{CoreView}
-use Rattle.core_events.specs.declared.view.Move.{Move}
-use Rattle.core_events.specs.declared.view.Note.{Note}
-use Rattle.core_events.specs.declared.view.Note.TheVariants as note
-use Rattle.core_events.specs.declared.view.Phase.{Phase}
-use Rattle.core_events.specs.Shows.{show_seat}
-use Rattle.core_events.specs.ShownSteps.{shown_act}
-use Rattle.core_events.specs.Steps.{answer, changed, moved}
-use Rattle.core_law.proofs.Trails.{changed_trail}
-use Rattle.domain_rule.specs.Told.{changed_object, cleared_after}
-use Rattle.domain_rule.specs.Views.{object_in}
+use Rattle.counted_handles.specs.plain_state.declared.act.PlainAct.{PlainAct}
+use Rattle.counted_handles.specs.plain_state.declared.slot.SlotId.{SlotId}
+use Rattle.counted_handles.specs.plain_state.Lists.{Entry}
+use Rattle.counted_handles.specs.plain_state.State.{Plain}
+use Rattle.acquire_retire.specs.plain_protocol.Owns.{HasSlot, Object, OwnPart}
+use Rattle.acquire_retire.specs.core_events.declared.act.Act.{Act}
+use Rattle.acquire_retire.specs.core_events.declared.outcome.Outcome.{Outcome}
+use Rattle.acquire_retire.specs.core_events.declared.shape.Shape.{Shape}
+use Rattle.acquire_retire.specs.core_events.declared.view.CoreView.{CoreView}
+use Rattle.acquire_retire.specs.core_events.declared.view.Move.{Move}
+use Rattle.acquire_retire.specs.core_events.declared.view.Note.{Note}
+use Rattle.acquire_retire.specs.core_events.declared.view.Note.TheVariants as note
+use Rattle.acquire_retire.specs.core_events.declared.view.Phase.{Phase}
+use Rattle.acquire_retire.specs.core_events.Shows.{show_seat}
+use Rattle.acquire_retire.specs.core_events.ShownSteps.{shown_act}
+use Rattle.acquire_retire.specs.core_events.Steps.{answer, changed, moved}
+use Rattle.acquire_retire.proofs.Below.core_law.Trails.{changed_trail}
+use Rattle.acquire_retire.specs.domain_rule.Told.{changed_object, cleared_after}
+use Rattle.acquire_retire.specs.domain_rule.Views.{object_in}
 use Rattle.acquire_retire.specs.Calls.{IsSameView, Steps, same_view}
 use Rattle.acquire_retire.specs.Collecting.{move}
 use Rattle.acquire_retire.specs.Domains.{DomainState}

@@ -1,13 +1,13 @@
 -- The seats of a domain that has just been opened are at rest, and have room.
 use Rattle.std.proofs.Common.{ℕ, zero, suc, ◌+◌, ◌<◌, List, refl, sym, subst, arith}
 use Rattle.std.specs.Prelude.{All}
-use Rattle.core_events.specs.declared.shape.Quota.{Quota}
-use Rattle.core_events.specs.declared.shape.Shape.{Shape}
-use Rattle.core_events.specs.Runs.{IsShape}
-use Rattle.core_events.specs.Steps.{HasRoom}
-use Rattle.core_events.specs.Views.{first_view, note_of}
-use Rattle.domain_rule.specs.Views.{quota_at}
-use Rattle.core_law.proofs.Each.{get_each, length_each}
+use Rattle.acquire_retire.specs.core_events.declared.shape.Quota.{Quota}
+use Rattle.acquire_retire.specs.core_events.declared.shape.Shape.{Shape}
+use Rattle.acquire_retire.specs.core_events.Runs.{IsShape}
+use Rattle.acquire_retire.specs.core_events.Steps.{HasRoom}
+use Rattle.acquire_retire.specs.core_events.Views.{first_view, note_of}
+use Rattle.acquire_retire.specs.domain_rule.Views.{quota_at}
+use Rattle.acquire_retire.proofs.Below.core_law.Each.{get_each, length_each}
 use Rattle.acquire_retire.specs.Domains.{DomainState}
 use Rattle.acquire_retire.specs.Openings.{begun_seat, opened_seats}
 use Rattle.acquire_retire.specs.Seats.{SeatState}

@@ -1,19 +1,19 @@
 -- The steps that count the references to a slot that the seat holds.
 use Rattle.std.proofs.Common.{◌≡◌, ◌≢◌, ℕ, Bool, true, false, List, [], ◌∷◌, refl, ap, sym, ◌∙◌, subst}
 use Rattle.std.specs.Prelude.{◌==◌, slice_index, if◌then◌else◌}
-use Rattle.plain_state.specs.declared.act.PlainAct.{PlainAct}
-use Rattle.plain_state.specs.declared.slot.SlotId.{SlotId}
-use Rattle.plain_state.specs.State.{Plain}
-use Rattle.plain_protocol.specs.Owns.{OwnPart}
-use Rattle.core_events.specs.declared.act.Act.TheVariants as act
-use Rattle.core_events.specs.declared.outcome.Outcome.{Outcome}
-use Rattle.core_events.specs.declared.outcome.Outcome.TheVariants as outcome
-use Rattle.core_events.specs.declared.view.CoreView.{CoreView}
-use Rattle.core_events.specs.declared.view.Phase.{Phase}
-use Rattle.core_events.specs.declared.view.Phase.TheVariants as phase
-use Rattle.core_events.specs.Views.{Holds, of_slot, slot_of}
-use Rattle.core_events.specs.Words.{strong_at}
-use Rattle.counter_word.specs.Words.{value}
+use Rattle.counted_handles.specs.plain_state.declared.act.PlainAct.{PlainAct}
+use Rattle.counted_handles.specs.plain_state.declared.slot.SlotId.{SlotId}
+use Rattle.counted_handles.specs.plain_state.State.{Plain}
+use Rattle.acquire_retire.specs.plain_protocol.Owns.{OwnPart}
+use Rattle.acquire_retire.specs.core_events.declared.act.Act.TheVariants as act
+use Rattle.acquire_retire.specs.core_events.declared.outcome.Outcome.{Outcome}
+use Rattle.acquire_retire.specs.core_events.declared.outcome.Outcome.TheVariants as outcome
+use Rattle.acquire_retire.specs.core_events.declared.view.CoreView.{CoreView}
+use Rattle.acquire_retire.specs.core_events.declared.view.Phase.{Phase}
+use Rattle.acquire_retire.specs.core_events.declared.view.Phase.TheVariants as phase
+use Rattle.acquire_retire.specs.core_events.Views.{Holds, of_slot, slot_of}
+use Rattle.acquire_retire.specs.core_events.Words.{strong_at}
+use Rattle.counted_handles.specs.counter_word.Words.{value}
 use Rattle.acquire_retire.specs.Calls.{IsSameView, Steps, same_view}
 use Rattle.acquire_retire.specs.Collecting.{move}
 use Rattle.acquire_retire.specs.Domains.{DomainState}

@@ -2,20 +2,20 @@
 use Rattle.std.proofs.Common.{ap, subst, sym, ◌≡◌, ◌≢◌, ◌⊎◌, inl, inr, ⊎_elim, ℕ, ◌<◌, Bool, true, false, List, [], ◌∷◌, ◌++◌, refl, ◌∙◌, arith}
 use Rattle.std.specs.Prelude.{◌==◌, if◌then◌else◌}
 use Rattle.std.proofs.lemmas.Bool.Decides.{nat_tests}
-use Rattle.plain_state.specs.declared.slot.SlotId.{SlotId}
-use Rattle.plain_state.specs.Lists.{times}
-use Rattle.plain_protocol.specs.Owns.{HasSlot}
-use Rattle.core_events.specs.declared.act.Act.TheVariants as act
-use Rattle.core_events.specs.declared.outcome.Outcome.{Outcome}
-use Rattle.core_events.specs.declared.outcome.Outcome.TheVariants as outcome
-use Rattle.core_events.specs.declared.view.CoreView.{CoreView}
-use Rattle.core_events.specs.declared.view.Move.{Move}
-use Rattle.core_events.specs.declared.view.Phase.TheVariants as phase
-use Rattle.core_events.specs.Shows.{show_seat}
-use Rattle.core_events.specs.Steps.{HasRoom, answer, changed}
-use Rattle.core_events.specs.Views.{slot_of}
-use Rattle.counter_word.specs.Words.{HELP, has_help}
-use Rattle.core_law.proofs.Kit.{times_without}
+use Rattle.counted_handles.specs.plain_state.declared.slot.SlotId.{SlotId}
+use Rattle.counted_handles.specs.plain_state.Lists.{times}
+use Rattle.acquire_retire.specs.plain_protocol.Owns.{HasSlot}
+use Rattle.acquire_retire.specs.core_events.declared.act.Act.TheVariants as act
+use Rattle.acquire_retire.specs.core_events.declared.outcome.Outcome.{Outcome}
+use Rattle.acquire_retire.specs.core_events.declared.outcome.Outcome.TheVariants as outcome
+use Rattle.acquire_retire.specs.core_events.declared.view.CoreView.{CoreView}
+use Rattle.acquire_retire.specs.core_events.declared.view.Move.{Move}
+use Rattle.acquire_retire.specs.core_events.declared.view.Phase.TheVariants as phase
+use Rattle.acquire_retire.specs.core_events.Shows.{show_seat}
+use Rattle.acquire_retire.specs.core_events.Steps.{HasRoom, answer, changed}
+use Rattle.acquire_retire.specs.core_events.Views.{slot_of}
+use Rattle.counted_handles.specs.counter_word.Words.{HELP, has_help}
+use Rattle.acquire_retire.proofs.Below.core_law.Kit.{times_without}
 use Rattle.acquire_retire.specs.declared.payment.Payment.{Payment}
 use Rattle.acquire_retire.specs.declared.payment.Payment.TheVariants as payment
 use Rattle.acquire_retire.specs.Calls.{IsSameView, Steps, same_view}

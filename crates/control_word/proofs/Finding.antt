@@ -2,28 +2,28 @@
 use Rattle.std.proofs.Common.{◌≡◌, ⊎_elim, ℕ, ◌<◌, ◌≤◌, Bool, true, false, List, refl, ap, sym, ◌∙◌, subst, arith}
 use Rattle.std.specs.Prelude.{nat_lt, if◌then◌else◌}
 use Rattle.std.proofs.lemmas.Bool.Decides.{nat_tests}
-use Rattle.plain_state.specs.declared.act.PlainAct.{PlainAct}
-use Rattle.plain_state.specs.declared.slot.SlotId.{SlotId}
-use Rattle.plain_state.specs.References.{strong_refs, weak_refs}
-use Rattle.plain_state.specs.State.{Plain}
-use Rattle.plain_protocol.specs.Owns.{OwnPart}
-use Rattle.core_events.specs.declared.act.Act.{Act}
-use Rattle.core_events.specs.declared.outcome.Outcome.TheVariants as outcome
-use Rattle.core_events.specs.declared.shape.Shape.{Shape}
-use Rattle.core_events.specs.declared.view.CoreView.{CoreView}
-use Rattle.core_events.specs.Counts.{strong, weak}
-use Rattle.core_events.specs.Runs.{view_at}
-use Rattle.core_events.specs.Shows.{shows}
-use Rattle.core_events.specs.Views.{Holds, HoldsStrongly, Terms}
-use Rattle.counter_word.specs.Words.{ZERO, value}
-use Rattle.core_law.specs.Sound.{Sound}
-use Rattle.core_law.proofs.Held.{held_named, held_taken, strongly_refs}
-use Rattle.core_law.proofs.Steady.{named_in_range}
-use Rattle.core_law.proofs.Always.{history_sound}
-use Rattle.core_law.proofs.Bridge.{shown_strong}
-use Rattle.core_law.proofs.Told.{counts_shown}
-use Rattle.domain_rule.specs.declared.view.SeatView.{SeatView}
-use Rattle.domain_rule.specs.Told.{Told}
+use Rattle.counted_handles.specs.plain_state.declared.act.PlainAct.{PlainAct}
+use Rattle.counted_handles.specs.plain_state.declared.slot.SlotId.{SlotId}
+use Rattle.counted_handles.specs.plain_state.References.{strong_refs, weak_refs}
+use Rattle.counted_handles.specs.plain_state.State.{Plain}
+use Rattle.acquire_retire.specs.plain_protocol.Owns.{OwnPart}
+use Rattle.acquire_retire.specs.core_events.declared.act.Act.{Act}
+use Rattle.acquire_retire.specs.core_events.declared.outcome.Outcome.TheVariants as outcome
+use Rattle.acquire_retire.specs.core_events.declared.shape.Shape.{Shape}
+use Rattle.acquire_retire.specs.core_events.declared.view.CoreView.{CoreView}
+use Rattle.acquire_retire.specs.core_events.Counts.{strong, weak}
+use Rattle.acquire_retire.specs.core_events.Runs.{view_at}
+use Rattle.acquire_retire.specs.core_events.Shows.{shows}
+use Rattle.acquire_retire.specs.core_events.Views.{Holds, HoldsStrongly, Terms}
+use Rattle.counted_handles.specs.counter_word.Words.{ZERO, value}
+use Rattle.acquire_retire.specs.core_law.Sound.{Sound}
+use Rattle.acquire_retire.proofs.Below.core_law.Held.{held_named, held_taken, strongly_refs}
+use Rattle.acquire_retire.proofs.Below.core_law.Steady.{named_in_range}
+use Rattle.acquire_retire.proofs.Below.core_law.Always.{history_sound}
+use Rattle.acquire_retire.proofs.Below.core_law.Bridge.{shown_strong}
+use Rattle.acquire_retire.proofs.Below.core_law.Told.{counts_shown}
+use Rattle.acquire_retire.specs.domain_rule.declared.view.SeatView.{SeatView}
+use Rattle.acquire_retire.specs.domain_rule.Told.{Told}
 
 module _ {V : Type 0} {fits : List ℕ → Type 0} {z : Shape} {ts : Terms}
     {next : OwnPart → OwnPart → V → PlainAct → ℕ → V}

@@ -1,20 +1,20 @@
 -- What follows a step that gave up the last reference, and leaves the seat idle again.
 use Rattle.std.proofs.Common.{◌≡◌, ◌≢◌, ℕ, Bool, true, false, List, [], ◌∷◌, refl, ap, sym, ◌∙◌, subst}
 use Rattle.std.specs.Prelude.{Option, Some, None, if◌then◌else◌}
-use Rattle.plain_state.specs.declared.act.PlainAct.TheVariants as plain
-use Rattle.plain_state.specs.declared.slot.SlotId.{SlotId}
-use Rattle.plain_protocol.specs.Owns.{HasSlot, Object}
-use Rattle.core_events.specs.declared.act.Act.{Act}
-use Rattle.core_events.specs.declared.outcome.Outcome.{Outcome}
-use Rattle.core_events.specs.declared.outcome.Outcome.TheVariants as outcome
-use Rattle.core_events.specs.declared.view.CoreView.{CoreView}
-use Rattle.core_events.specs.declared.view.Move.{Move}
-use Rattle.core_events.specs.declared.view.Phase.{Phase}
-use Rattle.core_events.specs.declared.view.Phase.TheVariants as phase
-use Rattle.core_events.specs.Shows.{filled, show_seat}
-use Rattle.core_events.specs.ShownSteps.{on_slot, shown_act}
-use Rattle.core_events.specs.Steps.{answer, changed}
-use Rattle.domain_rule.specs.Told.{changed_object, cleared_after}
+use Rattle.counted_handles.specs.plain_state.declared.act.PlainAct.TheVariants as plain
+use Rattle.counted_handles.specs.plain_state.declared.slot.SlotId.{SlotId}
+use Rattle.acquire_retire.specs.plain_protocol.Owns.{HasSlot, Object}
+use Rattle.acquire_retire.specs.core_events.declared.act.Act.{Act}
+use Rattle.acquire_retire.specs.core_events.declared.outcome.Outcome.{Outcome}
+use Rattle.acquire_retire.specs.core_events.declared.outcome.Outcome.TheVariants as outcome
+use Rattle.acquire_retire.specs.core_events.declared.view.CoreView.{CoreView}
+use Rattle.acquire_retire.specs.core_events.declared.view.Move.{Move}
+use Rattle.acquire_retire.specs.core_events.declared.view.Phase.{Phase}
+use Rattle.acquire_retire.specs.core_events.declared.view.Phase.TheVariants as phase
+use Rattle.acquire_retire.specs.core_events.Shows.{filled, show_seat}
+use Rattle.acquire_retire.specs.core_events.ShownSteps.{on_slot, shown_act}
+use Rattle.acquire_retire.specs.core_events.Steps.{answer, changed}
+use Rattle.acquire_retire.specs.domain_rule.Told.{changed_object, cleared_after}
 use Rattle.acquire_retire.specs.Calls.{IsSameView, Steps, same_view}
 use Rattle.acquire_retire.specs.Collecting.{move}
 use Rattle.acquire_retire.specs.Domains.{DomainState}

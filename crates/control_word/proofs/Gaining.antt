@@ -1,17 +1,17 @@
 -- One step that counts a reference more, or finds that the object has ended.
 use Rattle.std.proofs.Common.{◌≡◌, ◌≢◌, ℕ, Bool, true, false, List, [], ◌∷◌, refl, sym, ◌∙◌, subst, arith}
 use Rattle.std.specs.Prelude.{nat_lt, if◌then◌else◌}
-use Rattle.plain_state.specs.declared.act.PlainAct.{PlainAct}
-use Rattle.plain_state.specs.declared.slot.SlotId.{SlotId}
-use Rattle.plain_state.specs.State.{Plain}
-use Rattle.plain_protocol.specs.Owns.{OwnPart}
-use Rattle.core_events.specs.declared.act.Act.TheVariants as act
-use Rattle.core_events.specs.declared.outcome.Outcome.{Outcome}
-use Rattle.core_events.specs.declared.outcome.Outcome.TheVariants as outcome
-use Rattle.core_events.specs.declared.view.CoreView.{CoreView}
-use Rattle.core_events.specs.Steps.{answer, changed}
-use Rattle.core_events.specs.Views.{Holds, HoldsStrongly}
-use Rattle.counter_word.specs.Words.{ZERO}
+use Rattle.counted_handles.specs.plain_state.declared.act.PlainAct.{PlainAct}
+use Rattle.counted_handles.specs.plain_state.declared.slot.SlotId.{SlotId}
+use Rattle.counted_handles.specs.plain_state.State.{Plain}
+use Rattle.acquire_retire.specs.plain_protocol.Owns.{OwnPart}
+use Rattle.acquire_retire.specs.core_events.declared.act.Act.TheVariants as act
+use Rattle.acquire_retire.specs.core_events.declared.outcome.Outcome.{Outcome}
+use Rattle.acquire_retire.specs.core_events.declared.outcome.Outcome.TheVariants as outcome
+use Rattle.acquire_retire.specs.core_events.declared.view.CoreView.{CoreView}
+use Rattle.acquire_retire.specs.core_events.Steps.{answer, changed}
+use Rattle.acquire_retire.specs.core_events.Views.{Holds, HoldsStrongly}
+use Rattle.counted_handles.specs.counter_word.Words.{ZERO}
 use Rattle.acquire_retire.specs.Calls.{IsSameView, Steps, same_view}
 use Rattle.acquire_retire.specs.Collecting.{move}
 use Rattle.acquire_retire.specs.Domains.{DomainState}

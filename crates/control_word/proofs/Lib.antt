@@ -1,3 +1,4 @@
+pub mod Below
 pub mod Becoming
 pub mod Finding
 pub mod Gaining

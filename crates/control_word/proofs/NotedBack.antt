@@ -3,9 +3,9 @@ use Rattle.std.proofs.Common.{◌≡◌, ◌≢◌, ⊎_elim, ℕ, List, Option,
 use Rattle.std.specs.Prelude.{slice_index_or, slice_set}
 use Rattle.std.proofs.lemmas.Bool.{cases_eq, cases_lt}
 use Rattle.std.proofs.lemmas.List.{get_or-set_same, get_or-set_other, get_or_past, length-set, set-set}
-use Rattle.core_events.specs.declared.view.CoreView.{CoreView}
-use Rattle.core_events.specs.declared.view.Note.{Note}
-use Rattle.core_events.specs.declared.view.Note.TheVariants as note
+use Rattle.acquire_retire.specs.core_events.declared.view.CoreView.{CoreView}
+use Rattle.acquire_retire.specs.core_events.declared.view.Note.{Note}
+use Rattle.acquire_retire.specs.core_events.declared.view.Note.TheVariants as note
 use Rattle.control_word.specs.Resting.{IsUnderNone, noted}
 
 -- a list of idle notes in which one is idle anew

@@ -1,20 +1,20 @@
 -- How many references to a slot a seat owns after a call, for the proofs of tests.
 use Rattle.std.proofs.Common.{◌≡◌, ℕ, zero, suc, ◌+◌, ◌<◌, Bool, true, false, List, [], ◌∷◌, ◌++◌, refl, ap, sym, ◌∙◌, subst, arith}
 use Rattle.std.specs.Prelude.{slice_index_or}
-use Rattle.plain_state.specs.declared.act.PlainAct.{PlainAct}
-use Rattle.plain_state.specs.declared.slot.SlotId.{SlotId}
-use Rattle.plain_state.specs.Lists.{times}
-use Rattle.plain_state.specs.State.{Plain}
-use Rattle.plain_protocol.specs.Owns.{OwnPart}
-use Rattle.core_events.specs.declared.act.Act.TheVariants as act
-use Rattle.core_events.specs.declared.outcome.Outcome.{Outcome}
-use Rattle.core_events.specs.declared.outcome.Outcome.TheVariants as outcome
-use Rattle.core_events.specs.declared.view.CoreView.{CoreView}
-use Rattle.core_events.specs.declared.view.Move.{Move}
-use Rattle.core_events.specs.declared.view.Note.TheVariants as note
-use Rattle.core_events.specs.Steps.{moved}
-use Rattle.core_events.specs.Views.{first_view, no_notes, note_of}
-use Rattle.core_law.proofs.Kit.{one_same, times_cons, times_none, times_push, times_without}
+use Rattle.counted_handles.specs.plain_state.declared.act.PlainAct.{PlainAct}
+use Rattle.counted_handles.specs.plain_state.declared.slot.SlotId.{SlotId}
+use Rattle.counted_handles.specs.plain_state.Lists.{times}
+use Rattle.counted_handles.specs.plain_state.State.{Plain}
+use Rattle.acquire_retire.specs.plain_protocol.Owns.{OwnPart}
+use Rattle.acquire_retire.specs.core_events.declared.act.Act.TheVariants as act
+use Rattle.acquire_retire.specs.core_events.declared.outcome.Outcome.{Outcome}
+use Rattle.acquire_retire.specs.core_events.declared.outcome.Outcome.TheVariants as outcome
+use Rattle.acquire_retire.specs.core_events.declared.view.CoreView.{CoreView}
+use Rattle.acquire_retire.specs.core_events.declared.view.Move.{Move}
+use Rattle.acquire_retire.specs.core_events.declared.view.Note.TheVariants as note
+use Rattle.acquire_retire.specs.core_events.Steps.{moved}
+use Rattle.acquire_retire.specs.core_events.Views.{first_view, no_notes, note_of}
+use Rattle.acquire_retire.proofs.Below.core_law.Kit.{one_same, times_cons, times_none, times_push, times_without}
 use Rattle.acquire_retire.specs.Calls.{IsSameView, Steps, same_view}
 use Rattle.acquire_retire.specs.Collecting.{ends}
 use Rattle.acquire_retire.specs.Domains.{DomainState}

@@ -1,14 +1,14 @@
 -- What a call of one step or of several does, move by move, and what it leaves of the seat.
 use Rattle.std.specs.Prelude.{ℕ, ◌≡◌, List, [], ◌∷◌, ◌++◌}
-use Rattle.plain_state.specs.declared.act.PlainAct.{PlainAct}
-use Rattle.plain_state.specs.declared.slot.SlotId.{SlotId}
-use Rattle.plain_state.specs.State.{Plain}
-use Rattle.plain_protocol.specs.Owns.{HasSlot, OwnPart}
-use Rattle.core_events.specs.declared.view.CoreView.{CoreView}
-use Rattle.core_events.specs.declared.view.Move.{Move}
-use Rattle.core_events.specs.Runs.{Core}
-use Rattle.core_events.specs.Shows.{show_seat}
-use Rattle.domain_rule.specs.Views.{object_in}
+use Rattle.counted_handles.specs.plain_state.declared.act.PlainAct.{PlainAct}
+use Rattle.counted_handles.specs.plain_state.declared.slot.SlotId.{SlotId}
+use Rattle.counted_handles.specs.plain_state.State.{Plain}
+use Rattle.acquire_retire.specs.plain_protocol.Owns.{HasSlot, OwnPart}
+use Rattle.acquire_retire.specs.core_events.declared.view.CoreView.{CoreView}
+use Rattle.acquire_retire.specs.core_events.declared.view.Move.{Move}
+use Rattle.acquire_retire.specs.core_events.Runs.{Core}
+use Rattle.acquire_retire.specs.core_events.Shows.{show_seat}
+use Rattle.acquire_retire.specs.domain_rule.Views.{object_in}
 use Rattle.acquire_retire.specs.Collecting.{WalksBy}
 use Rattle.acquire_retire.specs.Domains.{DomainState}
 use Rattle.acquire_retire.specs.Seats.{SeatState}

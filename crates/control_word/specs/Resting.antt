@@ -1,10 +1,10 @@
 -- When a seat is in no call, and when it may use no add.
 use Rattle.std.specs.Prelude.{ℕ, ◌≡◌, List, [], Option, Some, None, slice_set}
-use Rattle.core_events.specs.declared.view.CoreView.{CoreView}
-use Rattle.core_events.specs.declared.view.Note.{Note}
-use Rattle.core_events.specs.declared.view.Note.TheVariants as note
-use Rattle.core_events.specs.Steps.{IsIdle}
-use Rattle.core_events.specs.Views.{note_of}
+use Rattle.acquire_retire.specs.core_events.declared.view.CoreView.{CoreView}
+use Rattle.acquire_retire.specs.core_events.declared.view.Note.{Note}
+use Rattle.acquire_retire.specs.core_events.declared.view.Note.TheVariants as note
+use Rattle.acquire_retire.specs.core_events.Steps.{IsIdle}
+use Rattle.acquire_retire.specs.core_events.Views.{note_of}
 use Rattle.acquire_retire.specs.Calls.{IsOf}
 use Rattle.acquire_retire.specs.Domains.{DomainState}
 use Rattle.acquire_retire.specs.Seats.{SeatState}

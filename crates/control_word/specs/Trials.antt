@@ -1,10 +1,10 @@
 -- What a seat of a test has of the one slot of its domain.
 use Rattle.std.specs.Prelude.{ℕ, ◌≡◌, ◌≤◌, ◌^◌, ⊤, List, []}
 use Rattle.std.proofs.Common.{arith}
-use Rattle.plain_state.specs.declared.slot.SlotId.{SlotId}
-use Rattle.core_events.specs.declared.shape.Shape.{Shape}
-use Rattle.core_events.specs.Views.{first_view}
-use Rattle.plain_state.specs.Lists.{times}
+use Rattle.counted_handles.specs.plain_state.declared.slot.SlotId.{SlotId}
+use Rattle.acquire_retire.specs.core_events.declared.shape.Shape.{Shape}
+use Rattle.acquire_retire.specs.core_events.Views.{first_view}
+use Rattle.counted_handles.specs.plain_state.Lists.{times}
 use Rattle.acquire_retire.specs.Domains.{DomainState}
 use Rattle.acquire_retire.specs.Seats.{SeatState}
 use Rattle.control_word.specs.Resting.{IsAtRest}

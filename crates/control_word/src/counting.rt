@@ -1,14 +1,13 @@
 //! How many references there are to a slot, as a seat that holds it reads it.
 ghost use Rattle.std.specs.Prelude.{ℕ, ◌≡◌};
-ghost use Rattle.core_events.specs.declared.outcome.Outcome.TheVariants as outcome;
-ghost use Rattle.core_events.specs.Views.{Holds};
-ghost use Rattle.core_events.specs.Steps.{HasRoom};
+ghost use Rattle.acquire_retire.specs.core_events.declared.outcome.Outcome.TheVariants as outcome;
+ghost use Rattle.acquire_retire.specs.core_events.Views.{Holds};
+ghost use Rattle.acquire_retire.specs.core_events.Steps.{HasRoom};
 ghost use Rattle.control_word.specs.Calls.{CountsStrong, CountsWeak, IsReadyToCount};
 ghost use Rattle.control_word.specs.Moves.{KnowsStill};
 ghost use Rattle.control_word.specs.Resting.{IsAtRest};
 
-use acquire_retire::{Domain, Outcome, Seat, SlotId};
-use plain_protocol::{Deed, Protocol};
+use acquire_retire::{Deed, Domain, Outcome, Protocol, Seat, SlotId};
 
 /// The number that a step answered.
 fn number(answer: Outcome) -> u64

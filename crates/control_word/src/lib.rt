@@ -21,12 +21,18 @@
 mod counting;
 mod opened;
 mod strong_handles;
-#[cfg(test)]
-mod tests;
 mod upgrading;
 mod weak_handles;
 
-pub use counted_handles::{SlotId, Spent, Strong, Weak};
+pub use acquire_retire::{
+    AnyStep, Deed, Domain, EventPlace, Kind, NoLaw, OpenError, OutOfMemory, Outcome, Protocol,
+    Quota, Seat, Shape, ShapeField, Still, empty_image, has_bit, held_as, kind_of, open_domain,
+    open_granted,
+};
+pub use counted_handles::{
+    Heap, LoadError, PayloadKind, Place, RecordKind, SlotId, SlotImage, Spent, Strong, Weak,
+    WeakPlace, record_of,
+};
 pub use counting::{strong_count, weak_count};
 pub use opened::opened_seats_are_at_rest;
 pub use strong_handles::{copy_strong, drop_strong};

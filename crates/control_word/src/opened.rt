@@ -1,12 +1,12 @@
 //! The seats of a domain that has just been opened.
 ghost use Rattle.std.specs.Prelude.{All};
-ghost use Rattle.core_events.specs.Runs.{IsShape};
-ghost use Rattle.core_events.specs.Steps.{HasRoom};
+ghost use Rattle.acquire_retire.specs.core_events.Runs.{IsShape};
+ghost use Rattle.acquire_retire.specs.core_events.Steps.{HasRoom};
 ghost use Rattle.acquire_retire.specs.Domains.{DomainState};
 ghost use Rattle.acquire_retire.specs.Openings.{opened_seats};
 ghost use Rattle.control_word.specs.Resting.{IsAtRest};
 
-use plain_protocol::Protocol;
+use acquire_retire::Protocol;
 
 /// Each seat of a domain that has just been opened is in no call, and has room for what a store retires. It does
 /// nothing.

@@ -1,15 +1,14 @@
 //! Strong references of a seat: one more, and one fewer.
 ghost use Rattle.std.specs.Prelude.{◌≡◌, ◌<◌, ◌↔◌, IfOk, IsErr, OnErr};
-ghost use Rattle.plain_state.specs.Lists.{times};
-ghost use Rattle.core_events.specs.Steps.{HasRoom};
+ghost use Rattle.counted_handles.specs.plain_state.Lists.{times};
+ghost use Rattle.acquire_retire.specs.core_events.Steps.{HasRoom};
 ghost use Rattle.acquire_retire.specs.Calls.{IsSameView, same_view};
 ghost use Rattle.control_word.specs.Calls.{DropsStrong, GainsStrong, without_strong};
 ghost use Rattle.control_word.specs.Moves.{KnowsStill};
 ghost use Rattle.control_word.specs.Resting.{IsAtRest, IsSpent};
 
-use acquire_retire::{Domain, Outcome, Seat};
+use acquire_retire::{Domain, Outcome, Protocol, Seat, Still};
 use counted_handles::{Spent, Strong};
-use plain_protocol::{Protocol, Still};
 
 /// One more strong reference to the object of one that the seat owns. `Spent` exactly where the seat has used all adds
 /// of its quota, and then nothing has changed. One step, and one add.

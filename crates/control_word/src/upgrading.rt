@@ -1,17 +1,16 @@
 //! A strong reference of a weak one.
 ghost use Rattle.std.specs.Prelude.{◌≡◌, ◌<◌, ◌↔◌, Err, IfOk};
-ghost use Rattle.plain_state.specs.Lists.{times};
-ghost use Rattle.core_events.specs.declared.act.Act.TheVariants as act;
-ghost use Rattle.core_events.specs.Steps.{HasRoom};
+ghost use Rattle.counted_handles.specs.plain_state.Lists.{times};
+ghost use Rattle.acquire_retire.specs.core_events.declared.act.Act.TheVariants as act;
+ghost use Rattle.acquire_retire.specs.core_events.Steps.{HasRoom};
 ghost use Rattle.acquire_retire.specs.Calls.{IsReady};
 ghost use Rattle.control_word.specs.declared.upgrading.UpgradeError.TheVariants as refused;
 ghost use Rattle.control_word.specs.Calls.{FindsEnded, GainsStrong};
 ghost use Rattle.control_word.specs.Moves.{KnowsStill};
 ghost use Rattle.control_word.specs.Resting.{IsAtRest, IsSpent};
 
-use acquire_retire::{Domain, Outcome, Seat};
+use acquire_retire::{Deed, Domain, Outcome, Protocol, Seat};
 use counted_handles::{Strong, Weak};
-use plain_protocol::{Deed, Protocol};
 
 /// Why an upgrade gave no reference.
 #[derive(Clone, Copy, PartialEq, Eq, Debug, Drop)]

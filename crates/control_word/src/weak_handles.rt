@@ -1,15 +1,14 @@
 //! Weak references of a seat: one more, and one fewer.
 ghost use Rattle.std.specs.Prelude.{◌≡◌, ◌<◌, ◌↔◌, IfOk, IsErr, OnErr};
-ghost use Rattle.plain_state.specs.Lists.{times};
-ghost use Rattle.core_events.specs.Views.{Holds};
-ghost use Rattle.core_events.specs.Steps.{HasRoom};
+ghost use Rattle.counted_handles.specs.plain_state.Lists.{times};
+ghost use Rattle.acquire_retire.specs.core_events.Views.{Holds};
+ghost use Rattle.acquire_retire.specs.core_events.Steps.{HasRoom};
 ghost use Rattle.control_word.specs.Calls.{DropsWeak, GainsWeak, without_weak};
 ghost use Rattle.control_word.specs.Moves.{KnowsStill};
 ghost use Rattle.control_word.specs.Resting.{IsAtRest, IsSpent};
 
-use acquire_retire::{Domain, Outcome, Seat, SlotId};
+use acquire_retire::{Domain, Outcome, Protocol, Seat, SlotId};
 use counted_handles::{Spent, Strong, Weak};
-use plain_protocol::Protocol;
 
 /// One weak reference to the slot of a strong one. `Spent` exactly where the seat has used all adds of its quota, and
 /// then nothing has changed. One step, and one add.

@@ -1,14 +1,14 @@
 -- The counter events of the table beside the steps of a counter: which outcome of the
 -- table the answer of a step is.
 use Rattle.std.specs.Prelude.{ℕ, ◌≡◌, ◌==◌, Bool, List, ◌∷◌, if◌then◌else◌}
-use Rattle.counter_word.specs.declared.outcome.Sub.{Sub}
-use Rattle.counter_word.specs.declared.outcome.Sub.TheVariants as «sub»
-use Rattle.counter_word.specs.declared.outcome.Fin.{Fin}
-use Rattle.counter_word.specs.declared.outcome.Fin.TheVariants as «fin»
-use Rattle.counter_word.specs.Words.{value}
-use Rattle.plain_state.specs.declared.slot.Kind.TheVariants.{Strong}
-use Rattle.plain_state.specs.declared.slot.SlotId.{SlotId}
-use Rattle.plain_state.specs.Lists.{Entry}
+use Rattle.announce_slots.specs.counter_word.declared.outcome.Sub.{Sub}
+use Rattle.announce_slots.specs.counter_word.declared.outcome.Sub.TheVariants as «sub»
+use Rattle.announce_slots.specs.counter_word.declared.outcome.Fin.{Fin}
+use Rattle.announce_slots.specs.counter_word.declared.outcome.Fin.TheVariants as «fin»
+use Rattle.announce_slots.specs.counter_word.Words.{value}
+use Rattle.announce_slots.specs.plain_state.declared.slot.Kind.TheVariants.{Strong}
+use Rattle.announce_slots.specs.plain_state.declared.slot.SlotId.{SlotId}
+use Rattle.announce_slots.specs.plain_state.Lists.{Entry}
 use Rattle.core_events.specs.declared.act.Act.{Act}
 use Rattle.core_events.specs.declared.act.Act.TheVariants as act
 use Rattle.core_events.specs.declared.outcome.Outcome.{Outcome}

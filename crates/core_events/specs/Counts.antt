@@ -1,11 +1,11 @@
 -- How often a slot stands in lists, phases and places, of one seat and of all.
 use Rattle.std.specs.Prelude.{ℕ, zero, suc, ◌+◌, ◌==◌, ◌&&◌, ◌||◌, not, nat_lt, Bool, List, length, slice_index, sum_by, count_by, if◌then◌else◌}
-use Rattle.plain_state.specs.declared.slot.Kind.{Kind}
-use Rattle.plain_state.specs.declared.slot.Kind.TheVariants.{Strong, Weak, Disposal}
-use Rattle.plain_state.specs.declared.slot.SlotId.{SlotId}
-use Rattle.plain_state.specs.declared.slot.Stage.{Stage}
-use Rattle.plain_state.specs.declared.slot.Stage.TheVariants.{Free, Blank, Live, Ended, Husk}
-use Rattle.plain_state.specs.Lists.{times, entry_times, is_slot}
+use Rattle.announce_slots.specs.plain_state.declared.slot.Kind.{Kind}
+use Rattle.announce_slots.specs.plain_state.declared.slot.Kind.TheVariants.{Strong, Weak, Disposal}
+use Rattle.announce_slots.specs.plain_state.declared.slot.SlotId.{SlotId}
+use Rattle.announce_slots.specs.plain_state.declared.slot.Stage.{Stage}
+use Rattle.announce_slots.specs.plain_state.declared.slot.Stage.TheVariants.{Free, Blank, Live, Ended, Husk}
+use Rattle.announce_slots.specs.plain_state.Lists.{times, entry_times, is_slot}
 use Rattle.core_events.specs.declared.shape.Shape.{Shape}
 use Rattle.core_events.specs.declared.view.CoreView.{CoreView}
 use Rattle.core_events.specs.declared.view.LeftSeat.{LeftSeat}
@@ -15,7 +15,7 @@ use Rattle.core_events.specs.declared.view.Phase.{Phase}
 use Rattle.core_events.specs.declared.view.Phase.TheVariants as phase
 use Rattle.core_events.specs.Words.{strong_at, weak_at, cell_at, weak_cell_at, field_at, weak_field_at, bits_at, bit_in, ticket_at}
 use Rattle.announce_slots.specs.Words.{code}
-use Rattle.counter_word.specs.Words.{has_zero, has_help}
+use Rattle.announce_slots.specs.counter_word.Words.{has_zero, has_help}
 use Rattle.core_events.specs.Runs.{Core}
 
 -- 1 where they are the same slot

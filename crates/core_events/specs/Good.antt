@@ -1,11 +1,11 @@
 -- What holds of every state that events reach, part by part.
 use Rattle.std.specs.Prelude.{ℕ, ◌≡◌, ◌≢◌, ◌⊎◌, ◌+◌, ◌*◌, ◌^◌, ◌<◌, ◌≤◌, true, false, [], length, slice_index, nat_lt, if◌then◌else◌, All}
-use Rattle.plain_state.specs.declared.slot.Kind.{Kind}
-use Rattle.plain_state.specs.declared.slot.Kind.TheVariants.{Strong, Weak, Disposal}
-use Rattle.plain_state.specs.declared.slot.SlotId.{SlotId}
-use Rattle.plain_state.specs.declared.slot.Stage.TheVariants.{Blank, Live, Ended}
-use Rattle.plain_state.specs.Lists.{times}
-use Rattle.plain_state.specs.References.{own_reference}
+use Rattle.announce_slots.specs.plain_state.declared.slot.Kind.{Kind}
+use Rattle.announce_slots.specs.plain_state.declared.slot.Kind.TheVariants.{Strong, Weak, Disposal}
+use Rattle.announce_slots.specs.plain_state.declared.slot.SlotId.{SlotId}
+use Rattle.announce_slots.specs.plain_state.declared.slot.Stage.TheVariants.{Blank, Live, Ended}
+use Rattle.announce_slots.specs.plain_state.Lists.{times}
+use Rattle.announce_slots.specs.plain_state.References.{own_reference}
 use Rattle.core_events.specs.declared.shape.Shape.{Shape}
 use Rattle.core_events.specs.declared.view.CoreView.{CoreView}
 use Rattle.core_events.specs.declared.view.Note.{Note}
@@ -13,7 +13,7 @@ use Rattle.core_events.specs.declared.view.Note.TheVariants as note
 use Rattle.core_events.specs.declared.view.Phase.TheVariants as phase
 use Rattle.core_events.specs.Words.{note_at, bitmaps, word_count}
 use Rattle.announce_slots.specs.Words.{code}
-use Rattle.counter_word.specs.Words.{ZERO, has_help, low, value}
+use Rattle.announce_slots.specs.counter_word.Words.{ZERO, has_help, low, value}
 use Rattle.core_events.specs.Views.{note_of, room_of, allowed_makes}
 use Rattle.core_events.specs.Runs.{Core, view_at, HasNullFields, IsQuota}
 use Rattle.core_events.specs.Counts.{total, listed, naming, refs, places, finishers, helpers, barers, fillers, givers, dying_times, adds_used, strong, weak, free_bit, tickets_drawn, ticket_times, stage, guarding}

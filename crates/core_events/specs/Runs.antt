@@ -1,7 +1,7 @@
 -- The state of the core, one event, lists of events, and the history of a state.
 use Rattle.std.specs.Prelude.{ℕ, ◌≡◌, ◌+◌, ◌^◌, ◌<◌, ◌≤◌, true, List, [], ◌∷◌, ◌++◌, length, slice_index, slice_index_or, slice_set, sum, All, ◌==◌, if◌then◌else◌}
-use Rattle.plain_state.specs.Limits.{most_batch, most_cells, most_seats, most_slots, most_weak_cells}
-use Rattle.plain_state.specs.declared.slot.SlotId.{SlotId}
+use Rattle.announce_slots.specs.plain_state.Limits.{most_batch, most_cells, most_seats, most_slots, most_weak_cells}
+use Rattle.announce_slots.specs.plain_state.declared.slot.SlotId.{SlotId}
 use Rattle.core_events.specs.declared.act.Act.{Act}
 use Rattle.core_events.specs.declared.act.Act.TheVariants as act
 use Rattle.core_events.specs.declared.act.Event.{Event}

@@ -1,11 +1,11 @@
 -- Which step of the plain state each event shows.
 use Rattle.std.specs.Prelude.{ℕ, ◌==◌, nat_lt, Bool, false, List, [], ◌∷◌, Option, Some, None, if◌then◌else◌}
-use Rattle.plain_state.specs.declared.act.EventPlace.{EventPlace}
-use Rattle.plain_state.specs.declared.act.EventPlace.TheVariants.{Cell, Field, WeakCell, WeakField}
-use Rattle.plain_state.specs.declared.act.PlainAct.{PlainAct}
-use Rattle.plain_state.specs.declared.act.PlainAct.TheVariants as plain
-use Rattle.plain_state.specs.declared.slot.SlotId.{SlotId}
-use Rattle.plain_state.specs.Lists.{Entry, times}
+use Rattle.announce_slots.specs.plain_state.declared.act.EventPlace.{EventPlace}
+use Rattle.announce_slots.specs.plain_state.declared.act.EventPlace.TheVariants.{Cell, Field, WeakCell, WeakField}
+use Rattle.announce_slots.specs.plain_state.declared.act.PlainAct.{PlainAct}
+use Rattle.announce_slots.specs.plain_state.declared.act.PlainAct.TheVariants as plain
+use Rattle.announce_slots.specs.plain_state.declared.slot.SlotId.{SlotId}
+use Rattle.announce_slots.specs.plain_state.Lists.{Entry, times}
 use Rattle.core_events.specs.declared.act.Act.{Act}
 use Rattle.core_events.specs.declared.act.Act.TheVariants as act
 use Rattle.core_events.specs.declared.shape.Shape.{Shape}
@@ -13,7 +13,7 @@ use Rattle.core_events.specs.declared.view.CoreView.{CoreView}
 use Rattle.core_events.specs.declared.view.Note.{Note}
 use Rattle.core_events.specs.declared.view.Note.TheVariants as note
 use Rattle.core_events.specs.Words.{bit_in}
-use Rattle.counter_word.specs.Words.{ZERO, has_help, value}
+use Rattle.announce_slots.specs.counter_word.Words.{ZERO, has_help, value}
 use Rattle.core_events.specs.Views.{note_of, slot_of}
 use Rattle.core_events.specs.Steps.{is_last}
 

@@ -1,15 +1,15 @@
 -- The plain state that a core shows.
 use Rattle.std.specs.Prelude.{ℕ, ◌++◌, map, slice_index, Option, Some, None}
-use Rattle.plain_state.specs.declared.slot.SlotId.{SlotId}
-use Rattle.plain_state.specs.declared.slot.PlainSlot.{PlainSlot}
-use Rattle.plain_state.specs.Lists.{times}
-use Rattle.plain_state.specs.State.{Plain, PlainSeat}
+use Rattle.announce_slots.specs.plain_state.declared.slot.SlotId.{SlotId}
+use Rattle.announce_slots.specs.plain_state.declared.slot.PlainSlot.{PlainSlot}
+use Rattle.announce_slots.specs.plain_state.Lists.{times}
+use Rattle.announce_slots.specs.plain_state.State.{Plain, PlainSeat}
 use Rattle.core_events.specs.declared.shape.Shape.{Shape}
 use Rattle.core_events.specs.declared.view.CoreView.{CoreView}
 use Rattle.core_events.specs.declared.view.Phase.{Phase}
 use Rattle.core_events.specs.declared.view.Phase.TheVariants as phase
 use Rattle.core_events.specs.Words.{each_from, slot_in, cell_at, weak_cell_at, field_at, weak_field_at, payload_at}
-use Rattle.counter_word.specs.Words.{has_zero}
+use Rattle.announce_slots.specs.counter_word.Words.{has_zero}
 use Rattle.core_events.specs.Views.{snapshots}
 use Rattle.core_events.specs.Runs.{Core}
 use Rattle.core_events.specs.Counts.{total, strong, stage, tickets_drawn}

@@ -2,12 +2,12 @@
 -- seat may do it, what it answers, and what the seat has afterwards. w is the word found.
 use Rattle.std.specs.Prelude.{ℕ, ◌≡◌, ◌≢◌, ◌⊎◌, ◌+◌, ◌-◌, ◌%◌, ◌^◌, ◌<◌, ◌==◌, nat_lt, bit_and, Bool, false, List, [], ◌∷◌, ◌++◌, length, slice_set, Option, Some, None, if◌then◌else◌}
 use prog.Atomic.{either}
-use Rattle.plain_state.specs.declared.slot.Kind.{Kind}
-use Rattle.plain_state.specs.declared.slot.Kind.TheVariants.{Strong, Weak, Disposal}
-use Rattle.plain_state.specs.declared.slot.SlotId.{SlotId}
-use Rattle.plain_state.specs.Lists.{Entry, times}
-use Rattle.plain_state.specs.Places.{place_kind}
-use Rattle.plain_state.specs.Steps.{word_of, joined}
+use Rattle.announce_slots.specs.plain_state.declared.slot.Kind.{Kind}
+use Rattle.announce_slots.specs.plain_state.declared.slot.Kind.TheVariants.{Strong, Weak, Disposal}
+use Rattle.announce_slots.specs.plain_state.declared.slot.SlotId.{SlotId}
+use Rattle.announce_slots.specs.plain_state.Lists.{Entry, times}
+use Rattle.announce_slots.specs.plain_state.Places.{place_kind}
+use Rattle.announce_slots.specs.plain_state.Steps.{word_of, joined}
 use Rattle.core_events.specs.declared.act.Act.{Act}
 use Rattle.core_events.specs.declared.act.Act.TheVariants as act
 use Rattle.core_events.specs.declared.outcome.Outcome.{Outcome}
@@ -20,8 +20,8 @@ use Rattle.core_events.specs.declared.view.Phase.{Phase}
 use Rattle.core_events.specs.declared.view.Phase.TheVariants as phase
 use Rattle.core_events.specs.Words.{note_at, strong_at, weak_at, payload_at, place_at, bits_at, bit_alone, bit_in, ticket_at, announcements, slot_in}
 use Rattle.announce_slots.specs.Words.{code}
-use Rattle.counter_word.specs.Words.{ZERO, HELP, has_help, value}
-use Rattle.plain_state.specs.Ejection.{Announcements, kept, ejected, ripened}
+use Rattle.announce_slots.specs.counter_word.Words.{ZERO, HELP, has_help, value}
+use Rattle.announce_slots.specs.plain_state.Ejection.{Announcements, kept, ejected, ripened}
 use Rattle.announce_slots.specs.Seen.{announced_in}
 use Rattle.core_events.specs.Views.{note_of, slot_of, slot_noted, of_slot, about, alone, without, Holds, IsOpen, IsReadable, IsRipeField, allowed_makes}
 

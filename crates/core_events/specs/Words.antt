@@ -1,13 +1,13 @@
 -- The words of a domain, in the order of its table: the base word, four announcement words of
 -- each seat, the strong cells, the weak cells, 21 words of each slot, the bits of the free slots, 64 in
 -- a word, and the number of the tickets drawn.
-use Rattle.counter_word.specs.Words.{ZERO}
+use Rattle.announce_slots.specs.counter_word.Words.{ZERO}
 use Rattle.std.specs.Prelude.{ℕ, zero, suc, ◌+◌, ◌-◌, ◌*◌, ◌/◌, ◌%◌, ◌^◌, min, ◌==◌, List, [], ◌∷◌, ◌++◌, replicate, Option, Some, None, if◌then◌else◌}
 use Rattle.std.specs.Int.{bit_at}
-use Rattle.plain_state.specs.Limits.{words_of_seat, words_of_slot}
-use Rattle.plain_state.specs.declared.act.EventPlace.{EventPlace}
-use Rattle.plain_state.specs.declared.act.EventPlace.TheVariants.{Cell, Field, WeakCell, WeakField}
-use Rattle.plain_state.specs.declared.slot.SlotId.{SlotId}
+use Rattle.announce_slots.specs.plain_state.Limits.{words_of_seat, words_of_slot}
+use Rattle.announce_slots.specs.plain_state.declared.act.EventPlace.{EventPlace}
+use Rattle.announce_slots.specs.plain_state.declared.act.EventPlace.TheVariants.{Cell, Field, WeakCell, WeakField}
+use Rattle.announce_slots.specs.plain_state.declared.slot.SlotId.{SlotId}
 use Rattle.core_events.specs.declared.shape.Shape.{Shape}
 
 -- the number of all announcement words

@@ -1,5 +1,5 @@
 //! What a seat can do in one atomic action.
-use plain_state::{EventPlace, Kind, SlotId};
+use announce_slots::{EventPlace, Kind, SlotId};
 
 /// One atomic action of a seat.
 #[derive(Clone, Copy, PartialEq, Eq, Debug, Drop)]

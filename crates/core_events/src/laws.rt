@@ -1,8 +1,8 @@
 //! The events of a strong word are the steps of a counter.
 ghost use Rattle.std.specs.Prelude.{ℕ, ◌<◌, ◌+◌, ◌^◌};
-ghost use Rattle.plain_state.specs.declared.slot.SlotId.{SlotId};
+ghost use Rattle.announce_slots.specs.plain_state.declared.slot.SlotId.{SlotId};
 ghost use Rattle.core_events.specs.declared.act.Act.TheVariants as acts;
-ghost use Rattle.counter_word.specs.Words.{added, subbed, finished, helped, marked};
+ghost use Rattle.announce_slots.specs.counter_word.Words.{added, subbed, finished, helped, marked};
 ghost use Rattle.core_events.specs.Counters.{Makes, PaysStrong, outcome_of_add, outcome_of_sub, outcome_of_finish, outcome_of_take, outcome_of_load, outcome_of_mark};
 
 /// Each counter event leaves the word that the step of the counter leaves, and answers what that step comes to.

@@ -18,8 +18,12 @@ mod shape;
 mod view;
 
 pub use act::{Act, Event};
+pub use announce_slots::{
+    Announced, EventPlace, HELP, Kind, MOST_BATCH, MOST_CELLS, MOST_SEATS, MOST_SLOTS,
+    MOST_WEAK_CELLS, SlotId, WORDS_OF_SEAT, WORDS_OF_SLOT, ZERO, announced_as, decode, encode,
+    has_help, value,
+};
 pub use laws::counters_agree;
 pub use outcome::Outcome;
-pub use plain_state::{EventPlace, Kind, SlotId};
 pub use shape::{Quota, Shape, ShapeField};
 pub use view::{CoreView, LeftSeat, Move, Note, Phase};

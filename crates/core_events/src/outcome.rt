@@ -1,5 +1,5 @@
 //! What an event answers.
-use plain_state::SlotId;
+use announce_slots::SlotId;
 
 /// What an event answers.
 #[derive(Clone, Copy, PartialEq, Eq, Debug, Drop)]

@@ -2,7 +2,7 @@
 use crate::act::Act;
 use crate::outcome::Outcome;
 use crate::shape::{Quota, Shape};
-use plain_state::{Kind, SlotId};
+use announce_slots::{Kind, SlotId};
 use std::collections::LinkedList;
 
 /// What one announcement word of a seat stands for.

@@ -1,3 +1,4 @@
+pub mod Below
 pub mod FirstBad
 pub mod FirstWords
 pub mod Slots

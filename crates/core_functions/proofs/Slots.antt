@@ -4,9 +4,9 @@ use Rattle.std.specs.Prelude.{◌↔◌, nat_lt, remove, IsTrue}
 use Rattle.std.specs.List.{list_any}
 use Rattle.std.proofs.lemmas.Bool.{cases_eq}
 use Rattle.std.proofs.lemmas.Bool.Decides.{nat_tests}
-use Rattle.plain_state.specs.declared.slot.SlotId.{SlotId}
-use Rattle.plain_state.specs.Lists.{times, is_slot}
-use Rattle.plain_state.proofs.Kit.{held_same, held_other, times_none, times_cons}
+use Rattle.core_events.specs.plain_state.declared.slot.SlotId.{SlotId}
+use Rattle.core_events.specs.plain_state.Lists.{times, is_slot}
+use Rattle.core_events.proofs.Below.plain_state.Kit.{held_same, held_other, times_none, times_cons}
 use Rattle.core_events.specs.Views.{without}
 
 any_slot : (s : SlotId) (xs : List SlotId)

@@ -1,6 +1,6 @@
 -- Which field of a shape, its quotas and its grants is out of its range.
 use Rattle.std.specs.Prelude.{◌≤◌, List, [], ◌∷◌, All}
-use Rattle.plain_state.specs.Limits.{most_batch, most_cells, most_seats, most_slots, most_weak_cells}
+use Rattle.core_events.specs.plain_state.Limits.{most_batch, most_cells, most_seats, most_slots, most_weak_cells}
 use Rattle.core_events.specs.declared.shape.Shape.{Shape}
 use Rattle.core_events.specs.declared.shape.ShapeField.{ShapeField}
 use Rattle.core_events.specs.declared.shape.ShapeField.TheVariants.{Seats, Slots, Cells, WeakCells, Batch, Quotas}

@@ -4,10 +4,8 @@ ghost use Rattle.core_events.specs.Words.{all_free, bitmaps, each_from, first_wo
 ghost use Rattle.core_events.specs.Runs.{IsShape};
 
 use crate::places::announcement_words;
-use core_events::Shape;
-use counter_word::ZERO;
-use out_of_memory::OutOfMemory;
-use plain_state::WORDS_OF_SLOT;
+use core_events::{Shape, WORDS_OF_SLOT, ZERO};
+use retire_batch::OutOfMemory;
 use std::alloc::Global;
 
 /// The words of a free slot: both counters, three fields and the payload.

@@ -3,8 +3,9 @@ ghost use Rattle.std.specs.Prelude.{◌^◌, ◌≤◌, ◌↔◌, IsTrue, All, 
 ghost use Rattle.core_events.specs.Runs.{AreTerms, IsShape};
 ghost use Rattle.core_functions.specs.Fields.{IsFirstBad};
 
-use core_events::{Quota, Shape, ShapeField};
-use plain_state::{MOST_BATCH, MOST_CELLS, MOST_SEATS, MOST_SLOTS, MOST_WEAK_CELLS};
+use core_events::{
+    MOST_BATCH, MOST_CELLS, MOST_SEATS, MOST_SLOTS, MOST_WEAK_CELLS, Quota, Shape, ShapeField,
+};
 
 const MOST_USES: u64 = 1 << 40;
 

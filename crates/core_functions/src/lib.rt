@@ -23,6 +23,11 @@ mod splitting;
 mod words;
 
 pub use beginning::first_words;
+pub use core_events::{
+    Act, Announced, EventPlace, Kind, Move, Note, Outcome, Phase, Quota, Shape, SlotId, ZERO,
+    has_help, value,
+};
+pub use eject_scan::Seen;
 pub use fields::first_bad;
 pub use grants::grant_more;
 pub use laws::one_first_bad;
@@ -35,5 +40,6 @@ pub use places::{
     announcement_words, bits_index, counter_index, is_content, kind_of, note_index, payload_index,
     place_index, room_for, slot_index, ticket_index,
 };
+pub use retire_batch::{Batch, OutOfMemory};
 pub use splitting::{Parts, announced_by, ripen, ripened, split};
 pub use words::{bit_alone, found_in, has_bit, held_as};

@@ -1,12 +1,12 @@
 //! Lists of slots and of notes.
 ghost use Rattle.std.specs.Prelude.{◌≡◌, ◌↔◌, ◌<◌, ◌≤◌, ◌+◌, ◌++◌, [], ℕ, IsTrue, OnOk, OnErr, slice_index_or, vec_len, vec_capacity};
-ghost use Rattle.plain_state.specs.Lists.{times, entry_times};
-ghost use Rattle.plain_state.specs.Steps.{joined};
+ghost use Rattle.core_events.specs.plain_state.Lists.{times, entry_times};
+ghost use Rattle.core_events.specs.plain_state.Steps.{joined};
 ghost use Rattle.core_events.specs.declared.view.Note.TheVariants.{Idle, Valid};
 ghost use Rattle.core_events.specs.Views.{valid_of, without};
 
 use core_events::{Kind, Note, SlotId};
-use out_of_memory::OutOfMemory;
+use retire_batch::OutOfMemory;
 
 /// Whether the slot stands in the list.
 pub fn has_slot(list: &[SlotId], slot: SlotId) -> bool

@@ -1,6 +1,6 @@
 //! What a phase is about, and where a decrement leads.
 ghost use Rattle.std.specs.Prelude.{◌≡◌, ◌↔◌, IsTrue};
-ghost use Rattle.plain_state.specs.declared.slot.SlotId.{SlotId};
+ghost use Rattle.core_events.specs.plain_state.declared.slot.SlotId.{SlotId};
 ghost use Rattle.core_events.specs.declared.view.Phase.TheVariants as variant;
 ghost use Rattle.core_events.specs.Steps.{decremented};
 ghost use Rattle.core_events.specs.Views.{slot_of};

@@ -1,12 +1,11 @@
 //! Where the words are that acts work on, by the order of a domain's words, and what else its sizes tell.
 ghost use Rattle.std.specs.Prelude.{◌≡◌, ◌↔◌, ◌<◌, ◌^◌, IsTrue};
-ghost use Rattle.plain_state.specs.Places.{place_kind};
+ghost use Rattle.core_events.specs.plain_state.Places.{place_kind};
 ghost use Rattle.core_events.specs.Words.{announcements, note_at, slot_at, place_at, payload_at, bits_at, ticket_at};
 ghost use Rattle.core_events.specs.Views.{room_of};
 ghost use Rattle.core_events.specs.Steps.{counter_at, IsContent};
 
-use core_events::{EventPlace, Kind, Shape, SlotId};
-use plain_state::{WORDS_OF_SEAT, WORDS_OF_SLOT};
+use core_events::{EventPlace, Kind, Shape, SlotId, WORDS_OF_SEAT, WORDS_OF_SLOT};
 
 /// The kind of the references that a place holds.
 pub fn kind_of(place: EventPlace) -> Kind

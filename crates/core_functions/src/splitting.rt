@@ -2,16 +2,14 @@
 ghost use Rattle.std.specs.Prelude.{◌≡◌, ◌-◌, ◌<◌, ◌^◌, ◌+◌, ◌≤◌, ◌++◌, ◌∷◌, [], IfOk, true, length, take, vec_len, vec_capacity};
 ghost use Rattle.std.specs.VecDeque.{deque_len};
 ghost use Rattle.std.specs.List.{filter};
-ghost use Rattle.plain_state.specs.Ejection.{kept, ejected, ripened, ripens};
-ghost use Rattle.announce_slots.specs.Seen.{announced_in};
+ghost use Rattle.core_events.specs.plain_state.Ejection.{kept, ejected, ripened, ripens};
+ghost use Rattle.core_events.specs.announce_slots.Seen.{announced_in};
 ghost use Rattle.eject_scan.specs.Seen.{announced};
 
 use crate::lists::has_slot;
-use core_events::{Kind, SlotId};
+use core_events::{Announced, Kind, SlotId};
 use eject_scan::Seen;
-use out_of_memory::OutOfMemory;
-use plain_state::Announced;
-use retire_batch::split_entries;
+use retire_batch::{OutOfMemory, split_entries};
 use std::alloc::Global;
 use std::collections::VecDeque;
 

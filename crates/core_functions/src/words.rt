@@ -1,9 +1,9 @@
 //! Words that an act finds, and what they say.
 ghost use Rattle.std.specs.Prelude.{◌≡◌, ◌==◌, ◌<◌, ◌≤◌, ◌+◌, ◌^◌};
-ghost use Rattle.plain_state.specs.Steps.{word_of};
+ghost use Rattle.core_events.specs.plain_state.Steps.{word_of};
 ghost use Rattle.core_events.specs.Words.{slot_in, bit_alone, bit_in};
-ghost use Rattle.announce_slots.specs.Words.{code};
-ghost use Rattle.counter_word.specs.Words.{has_help, value};
+ghost use Rattle.core_events.specs.announce_slots.Words.{code};
+ghost use Rattle.core_events.specs.counter_word.Words.{has_help, value};
 
 use core_events::SlotId;
 

@@ -4,13 +4,13 @@ use Rattle.std.specs.Prelude.{slice_index}
 use Rattle.std.proofs.lemmas.List.{get_or_past, get_or-map}
 use Rattle.std.proofs.lemmas.List.Sums.{sum_by-cons}
 use Rattle.std.proofs.lemmas.Bool.{cases_lt}
-use Rattle.plain_state.specs.declared.slot.Kind.{Kind}
-use Rattle.plain_state.specs.declared.slot.Kind.TheVariants.{Strong, Weak, Disposal}
-use Rattle.plain_state.specs.declared.slot.SlotId.{SlotId}
-use Rattle.plain_state.specs.declared.slot.PlainSlot.{PlainSlot}
-use Rattle.plain_state.specs.Lists.{times, entry_times}
-use Rattle.plain_state.specs.References.{strong_refs, weak_refs, places as plain_places, deferrals, snapshot_times, dying_times as plain_dying, own_reference, strong_fields, weak_fields}
-use Rattle.plain_state.specs.State.{PlainSeat, seat_at, slot_at, stage_at, new_seat, new_slot}
+use Rattle.core_events.specs.plain_state.declared.slot.Kind.{Kind}
+use Rattle.core_events.specs.plain_state.declared.slot.Kind.TheVariants.{Strong, Weak, Disposal}
+use Rattle.core_events.specs.plain_state.declared.slot.SlotId.{SlotId}
+use Rattle.core_events.specs.plain_state.declared.slot.PlainSlot.{PlainSlot}
+use Rattle.core_events.specs.plain_state.Lists.{times, entry_times}
+use Rattle.core_events.specs.plain_state.References.{strong_refs, weak_refs, places as plain_places, deferrals, snapshot_times, dying_times as plain_dying, own_reference, strong_fields, weak_fields}
+use Rattle.core_events.specs.plain_state.State.{PlainSeat, seat_at, slot_at, stage_at, new_seat, new_slot}
 use Rattle.core_events.specs.declared.shape.Shape.{Shape}
 use Rattle.core_events.specs.declared.view.CoreView.{CoreView}
 use Rattle.core_events.specs.Words.{cell_at, weak_cell_at, field_at, weak_field_at}

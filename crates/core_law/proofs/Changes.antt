@@ -2,13 +2,13 @@
 use Rattle.std.proofs.Common.{◌≡◌, ◌≢◌, ℕ, ◌%◌, ◌<◌, Bool, List, length, set, refl, ap, ◌∙◌, arith}
 use Rattle.std.specs.Prelude.{slice_index}
 use Rattle.std.proofs.lemmas.List.{get_or-set_same, get_or-set_other}
-use Rattle.plain_state.specs.declared.slot.Stage.{Stage}
-use Rattle.plain_state.specs.declared.slot.SlotId.{SlotId}
-use Rattle.plain_state.specs.State.{with_seat, with_slot}
+use Rattle.core_events.specs.plain_state.declared.slot.Stage.{Stage}
+use Rattle.core_events.specs.plain_state.declared.slot.SlotId.{SlotId}
+use Rattle.core_events.specs.plain_state.State.{with_seat, with_slot}
 use Rattle.core_events.specs.declared.shape.Shape.{Shape}
 use Rattle.core_events.specs.declared.view.CoreView.{CoreView}
 use Rattle.core_events.specs.Words.{strong_at, weak_at, bits_at, bit_in}
-use Rattle.counter_word.specs.Words.{has_zero}
+use Rattle.core_events.specs.counter_word.Words.{has_zero}
 use Rattle.core_events.specs.Runs.{Core, view_at}
 use Rattle.core_events.specs.Counts.{strong, stage, is_live_word}
 use Rattle.core_events.specs.Shows.{shows, show_seat, show_slot, lives}

@@ -4,14 +4,14 @@ use Rattle.std.specs.Prelude.{slice_set}
 use Rattle.std.proofs.lemmas.List.{length-map}
 use Rattle.std.proofs.lemmas.List.Sums.{sum_by-set}
 use Rattle.std.proofs.lemmas.Bool.{cases_lt}
-use Rattle.plain_state.specs.declared.slot.Kind.{Kind}
-use Rattle.plain_state.specs.declared.slot.Kind.TheVariants.{Strong, Weak, Disposal}
-use Rattle.plain_state.specs.declared.slot.SlotId.{SlotId}
-use Rattle.plain_state.specs.declared.slot.Stage.TheVariants.{Live, Ended}
-use Rattle.plain_state.specs.Lawful.{IsCovered}
-use Rattle.plain_state.specs.References.{over_seats, deferrals, snapshot_times}
-use Rattle.plain_state.specs.Lists.{times, entry_times}
-use Rattle.plain_state.specs.State.{PlainSeat, stage_at, with_seat, new_seat}
+use Rattle.core_events.specs.plain_state.declared.slot.Kind.{Kind}
+use Rattle.core_events.specs.plain_state.declared.slot.Kind.TheVariants.{Strong, Weak, Disposal}
+use Rattle.core_events.specs.plain_state.declared.slot.SlotId.{SlotId}
+use Rattle.core_events.specs.plain_state.declared.slot.Stage.TheVariants.{Live, Ended}
+use Rattle.core_events.specs.plain_state.Lawful.{IsCovered}
+use Rattle.core_events.specs.plain_state.References.{over_seats, deferrals, snapshot_times}
+use Rattle.core_events.specs.plain_state.Lists.{times, entry_times}
+use Rattle.core_events.specs.plain_state.State.{PlainSeat, stage_at, with_seat, new_seat}
 use Rattle.core_events.specs.declared.shape.Shape.{Shape}
 use Rattle.core_events.specs.declared.view.CoreView.{CoreView}
 use Rattle.core_events.specs.Views.{snapshots}

@@ -1,19 +1,19 @@
 -- The rows of the plain steps, where the seat and the slot are known.
 use Rattle.std.proofs.Common.{◌≡◌, ◌⊎◌, inl, inr, ℕ, ◌+◌, ◌<◌, true, false, List, [], ◌∷◌, ◌++◌, length, refl, ap, ◌∙◌}
 use Rattle.std.specs.Prelude.{slice_set, Some, None}
-use Rattle.plain_state.specs.declared.act.EventPlace.{EventPlace}
-use Rattle.plain_state.specs.declared.act.PlainAct.TheVariants as plain
-use Rattle.plain_state.specs.declared.slot.Kind.{Kind}
-use Rattle.plain_state.specs.declared.slot.Kind.TheVariants.{Disposal}
-use Rattle.plain_state.specs.declared.slot.SlotId.{SlotId}
-use Rattle.plain_state.specs.declared.slot.PlainSlot.{PlainSlot}
-use Rattle.plain_state.specs.declared.slot.Stage.TheVariants.{Free, Blank, Live, Ended, Husk}
-use Rattle.plain_state.specs.Lists.{Entry, times, Loses, Gains}
-use Rattle.plain_state.specs.State.{Plain, PlainSeat, seat_at, slot_at, stage_at, with_seat, with_slot}
-use Rattle.plain_state.specs.Places.{Holds, held_times, IsReadable, place_kind, content}
-use Rattle.plain_state.specs.References.{strong_refs, weak_refs, snapshot_times}
-use Rattle.plain_state.specs.Lawful.{IsCovered, HasNullFields}
-use Rattle.plain_state.specs.Steps.{Row, word_of, IsReordering}
+use Rattle.core_events.specs.plain_state.declared.act.EventPlace.{EventPlace}
+use Rattle.core_events.specs.plain_state.declared.act.PlainAct.TheVariants as plain
+use Rattle.core_events.specs.plain_state.declared.slot.Kind.{Kind}
+use Rattle.core_events.specs.plain_state.declared.slot.Kind.TheVariants.{Disposal}
+use Rattle.core_events.specs.plain_state.declared.slot.SlotId.{SlotId}
+use Rattle.core_events.specs.plain_state.declared.slot.PlainSlot.{PlainSlot}
+use Rattle.core_events.specs.plain_state.declared.slot.Stage.TheVariants.{Free, Blank, Live, Ended, Husk}
+use Rattle.core_events.specs.plain_state.Lists.{Entry, times, Loses, Gains}
+use Rattle.core_events.specs.plain_state.State.{Plain, PlainSeat, seat_at, slot_at, stage_at, with_seat, with_slot}
+use Rattle.core_events.specs.plain_state.Places.{Holds, held_times, IsReadable, place_kind, content}
+use Rattle.core_events.specs.plain_state.References.{strong_refs, weak_refs, snapshot_times}
+use Rattle.core_events.specs.plain_state.Lawful.{IsCovered, HasNullFields}
+use Rattle.core_events.specs.plain_state.Steps.{Row, word_of, IsReordering}
 use Rattle.core_events.specs.declared.act.Act.{Act}
 use Rattle.core_events.specs.declared.shape.Shape.{Shape}
 use Rattle.core_events.specs.Runs.{Core, view_at, found, after}

@@ -2,11 +2,11 @@
 use Rattle.std.proofs.Common.{◌≡◌, ◌≢◌, ℕ, ◌+◌, ◌-◌, ◌≤◌, Bool, true, false, List, [], ◌∷◌, length, refl, ap, sym, ◌∙◌, arith, length-append}
 use Rattle.std.specs.Prelude.{◌==◌, if◌then◌else◌, Option, Some, None}
 use Rattle.std.proofs.lemmas.Bool.Decides.{nat_tests}
-use Rattle.plain_state.specs.declared.slot.Kind.{Kind}
-use Rattle.plain_state.specs.declared.slot.Kind.TheVariants.{Strong, Weak, Disposal}
-use Rattle.plain_state.specs.declared.slot.SlotId.{SlotId}
-use Rattle.plain_state.specs.Lists.{Entry, entry_times}
-use Rattle.plain_state.specs.Steps.{word_of, joined}
+use Rattle.core_events.specs.plain_state.declared.slot.Kind.{Kind}
+use Rattle.core_events.specs.plain_state.declared.slot.Kind.TheVariants.{Strong, Weak, Disposal}
+use Rattle.core_events.specs.plain_state.declared.slot.SlotId.{SlotId}
+use Rattle.core_events.specs.plain_state.Lists.{Entry, entry_times}
+use Rattle.core_events.specs.plain_state.Steps.{word_of, joined}
 use Rattle.core_events.specs.declared.view.CoreView.{CoreView}
 use Rattle.core_events.specs.declared.view.Move.{Move}
 use Rattle.core_events.specs.Words.{slot_in}

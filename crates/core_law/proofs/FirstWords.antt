@@ -7,12 +7,12 @@ use Rattle.std.proofs.lemmas.List.Elements.{All-append, All-replicate, All-from_
 use Rattle.std.proofs.lemmas.Nat.Bits.{bit_at_ones, bit_at_ones_above}
 use Rattle.std.proofs.Math.Pow.{pow-lt}
 use Rattle.std.proofs.lemmas.Bool.{cases_lt}
-use Rattle.plain_state.specs.declared.slot.Kind.{Kind}
-use Rattle.plain_state.specs.declared.slot.Kind.TheVariants.{Strong, Weak, Disposal}
-use Rattle.plain_state.specs.declared.slot.SlotId.{SlotId}
+use Rattle.core_events.specs.plain_state.declared.slot.Kind.{Kind}
+use Rattle.core_events.specs.plain_state.declared.slot.Kind.TheVariants.{Strong, Weak, Disposal}
+use Rattle.core_events.specs.plain_state.declared.slot.SlotId.{SlotId}
 use Rattle.core_events.specs.declared.shape.Shape.{Shape}
 use Rattle.core_events.specs.Words.{slot_at, cell_at, weak_cell_at, field_at, weak_field_at, strong_at, weak_at, bits_at, bit_in, bitmaps, ticket_at, word_count, each_from, full_bits, free_words, all_free, first_words}
-use Rattle.counter_word.specs.Words.{ZERO}
+use Rattle.core_events.specs.counter_word.Words.{ZERO}
 use Rattle.core_events.specs.Counts.{in_word, places, fields_holding}
 use Rattle.core_law.proofs.Each.{length_each, get_each}
 use Rattle.core_law.proofs.Kit.{below_none, in_word_null}

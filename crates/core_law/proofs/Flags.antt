@@ -3,7 +3,7 @@ use Rattle.std.proofs.Common.{◌≡◌, ℕ, ◌+◌, ◌-◌, ◌*◌, ◌/◌
 use Rattle.std.proofs.lemmas.Bool.Decides.{nat_tests}
 use Rattle.std.proofs.lemmas.Nat.{and_comm, and-not}
 use Rattle.std.proofs.lemmas.Nat.Bits.{and_pow}
-use Rattle.counter_word.specs.Words.{ZERO, HELP, has_help}
+use Rattle.core_events.specs.counter_word.Words.{ZERO, HELP, has_help}
 use Rattle.core_events.specs.Counts.{is_live_word}
 use Rattle.core_law.specs.Slots.{Numbers, SlotLaw}
 

@@ -3,14 +3,14 @@
 use Rattle.std.proofs.Common.{◌≡◌, ◌≢◌, ℕ, ◌<◌, Bool, List, set, map, ap, ◌∙◌, arith}
 use Rattle.std.specs.Prelude.{slice_index, Option}
 use Rattle.std.proofs.lemmas.List.{map-set}
-use Rattle.plain_state.specs.declared.slot.Stage.{Stage}
-use Rattle.plain_state.specs.declared.slot.SlotId.{SlotId}
-use Rattle.plain_state.specs.declared.slot.PlainSlot.{PlainSlot}
-use Rattle.plain_state.specs.State.{Plain, PlainSeat, with_seat, with_slot}
+use Rattle.core_events.specs.plain_state.declared.slot.Stage.{Stage}
+use Rattle.core_events.specs.plain_state.declared.slot.SlotId.{SlotId}
+use Rattle.core_events.specs.plain_state.declared.slot.PlainSlot.{PlainSlot}
+use Rattle.core_events.specs.plain_state.State.{Plain, PlainSeat, with_seat, with_slot}
 use Rattle.core_events.specs.declared.shape.Shape.{Shape}
 use Rattle.core_events.specs.declared.view.CoreView.{CoreView}
 use Rattle.core_events.specs.Words.{each_from, slot_in, cell_at, weak_cell_at, field_at, weak_field_at, payload_at, ticket_at}
-use Rattle.counter_word.specs.Words.{has_zero}
+use Rattle.core_events.specs.counter_word.Words.{has_zero}
 use Rattle.core_events.specs.Runs.{Core}
 use Rattle.core_events.specs.Counts.{strong, stage}
 use Rattle.core_events.specs.Shows.{shows, show_seat, show_slot, lives}

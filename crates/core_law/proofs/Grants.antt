@@ -3,12 +3,12 @@ use Rattle.std.proofs.Common.{◌≡◌, ◌≢◌, ◌∙◌, ⊎_elim, ℕ, ze
 use Rattle.std.specs.Prelude.{◌==◌, if◌then◌else◌, nat_lt, Option, Some, None}
 use Rattle.std.proofs.lemmas.Bool.{cases_eq, cases_lt}
 use Rattle.std.proofs.lemmas.List.{get_or-set_same, get_or-set_other, set_past}
-use Rattle.plain_state.specs.declared.slot.Kind.{Kind}
-use Rattle.plain_state.specs.declared.slot.Kind.TheVariants.{Strong, Weak, Disposal}
-use Rattle.plain_state.specs.declared.slot.SlotId.{SlotId}
-use Rattle.plain_state.specs.Lists.{Entry}
-use Rattle.plain_state.specs.Places.{place_kind}
-use Rattle.plain_state.specs.Steps.{word_of}
+use Rattle.core_events.specs.plain_state.declared.slot.Kind.{Kind}
+use Rattle.core_events.specs.plain_state.declared.slot.Kind.TheVariants.{Strong, Weak, Disposal}
+use Rattle.core_events.specs.plain_state.declared.slot.SlotId.{SlotId}
+use Rattle.core_events.specs.plain_state.Lists.{Entry}
+use Rattle.core_events.specs.plain_state.Places.{place_kind}
+use Rattle.core_events.specs.plain_state.Steps.{word_of}
 use Rattle.core_events.specs.declared.act.Act.{Act}
 use Rattle.core_events.specs.declared.act.Act.TheVariants as act
 use Rattle.core_events.specs.declared.act.Event.{Event}
@@ -17,7 +17,7 @@ use Rattle.core_events.specs.declared.shape.Quota.{Quota}
 use Rattle.core_events.specs.declared.view.CoreView.{CoreView}
 use Rattle.core_events.specs.declared.view.Phase.{Phase}
 use Rattle.core_events.specs.Words.{bit_in}
-use Rattle.counter_word.specs.Words.{ZERO, has_help, value}
+use Rattle.core_events.specs.counter_word.Words.{ZERO, has_help, value}
 use Rattle.core_events.specs.Views.{Terms, first_views, no_view, note_of, slot_of}
 use Rattle.core_events.specs.Steps.{changed, ended, exchanged, given_up, is_last, is_valid, paid, moved, noted}
 use Rattle.core_events.specs.Runs.{Core, History, found, left_behind, taken_over, view_at, views_after}

@@ -4,11 +4,11 @@ use Rattle.std.specs.Prelude.{slice_index}
 use Rattle.std.proofs.lemmas.List.{get_or_append_left, get_or_at}
 use Rattle.std.proofs.lemmas.Bool.{cases_eq, cases_lt}
 use Rattle.std.proofs.lemmas.Bool.Decides.{nat_tests}
-use Rattle.plain_state.specs.declared.slot.Kind.{Kind}
-use Rattle.plain_state.specs.declared.slot.Kind.TheVariants.{Strong, Weak, Disposal}
-use Rattle.plain_state.specs.declared.slot.SlotId.{SlotId}
+use Rattle.core_events.specs.plain_state.declared.slot.Kind.{Kind}
+use Rattle.core_events.specs.plain_state.declared.slot.Kind.TheVariants.{Strong, Weak, Disposal}
+use Rattle.core_events.specs.plain_state.declared.slot.SlotId.{SlotId}
 use Rattle.core_events.specs.declared.view.CoreView.{CoreView}
-use Rattle.announce_slots.specs.Words.{code}
+use Rattle.core_events.specs.announce_slots.Words.{code}
 use Rattle.core_events.specs.Counts.{guarding, has_passed, waiting}
 
 -- what is read past a is not passed

@@ -3,14 +3,14 @@ use Rattle.std.proofs.Common.{◌≡◌, ◌≢◌, ⊎_elim, ℕ, ◌+◌, ◌^
 use Rattle.std.specs.Prelude.{slice_index, nat_lt, ◌==◌, if◌then◌else◌, Option, None}
 use Rattle.std.proofs.lemmas.List.{get_or-set_other}
 use Rattle.std.proofs.lemmas.Bool.Decides.{nat_tests}
-use Rattle.plain_state.specs.declared.act.EventPlace.{EventPlace}
-use Rattle.plain_state.specs.declared.act.EventPlace.TheVariants.{Cell, Field, WeakCell, WeakField}
-use Rattle.plain_state.specs.declared.slot.Kind.{Kind}
-use Rattle.plain_state.specs.declared.slot.Kind.TheVariants.{Strong, Weak, Disposal}
-use Rattle.plain_state.specs.declared.slot.SlotId.{SlotId}
-use Rattle.plain_state.specs.Lists.{times}
-use Rattle.plain_state.specs.Places.{place_kind}
-use Rattle.plain_state.specs.Steps.{word_of}
+use Rattle.core_events.specs.plain_state.declared.act.EventPlace.{EventPlace}
+use Rattle.core_events.specs.plain_state.declared.act.EventPlace.TheVariants.{Cell, Field, WeakCell, WeakField}
+use Rattle.core_events.specs.plain_state.declared.slot.Kind.{Kind}
+use Rattle.core_events.specs.plain_state.declared.slot.Kind.TheVariants.{Strong, Weak, Disposal}
+use Rattle.core_events.specs.plain_state.declared.slot.SlotId.{SlotId}
+use Rattle.core_events.specs.plain_state.Lists.{times}
+use Rattle.core_events.specs.plain_state.Places.{place_kind}
+use Rattle.core_events.specs.plain_state.Steps.{word_of}
 use Rattle.core_events.specs.declared.act.Act.{Act}
 use Rattle.core_events.specs.declared.act.Act.TheVariants as act
 use Rattle.core_events.specs.declared.outcome.Outcome.TheVariants as outcome
@@ -20,8 +20,8 @@ use Rattle.core_events.specs.declared.view.Move.{Move}
 use Rattle.core_events.specs.declared.view.Note.TheVariants as note
 use Rattle.core_events.specs.declared.view.Phase.TheVariants as phase
 use Rattle.core_events.specs.Words.{note_at, strong_at, weak_at, place_at, payload_at, bits_at, bit_in, announcements}
-use Rattle.announce_slots.specs.Words.{code}
-use Rattle.counter_word.specs.Words.{value}
+use Rattle.core_events.specs.announce_slots.Words.{code}
+use Rattle.core_events.specs.counter_word.Words.{value}
 use Rattle.core_events.specs.Views.{IsOpen, IsRipeField, slot_of}
 use Rattle.core_events.specs.Steps.{May, CanGive}
 use Rattle.core_events.specs.Runs.{Core, view_at, Enabled, after, HasNullFields}

@@ -3,16 +3,16 @@ use Rattle.std.proofs.Common.{◌≡◌, ◌≢◌, ⊎_elim, ℕ, ◌+◌, ◌^
 use Rattle.std.specs.Prelude.{◌↔◌, slice_index, None}
 use Rattle.std.proofs.lemmas.Bool.{cases_lt}
 use Rattle.std.proofs.lemmas.Bool.Decides.{nat_tests}
-use Rattle.plain_state.specs.declared.slot.Kind.TheVariants.{Strong, Weak}
-use Rattle.plain_state.specs.declared.slot.SlotId.{SlotId}
-use Rattle.plain_state.specs.declared.slot.Stage.TheVariants.{Free, Live, Ended}
-use Rattle.plain_state.specs.declared.slot.PlainSlot.{PlainSlot}
-use Rattle.plain_state.specs.Lawful.{Lawful, IsVacant, HasNullFields}
-use Rattle.plain_state.specs.References.{strong_refs, weak_refs, own_reference, dying_times as plain_dying}
-use Rattle.plain_state.specs.State.{slot_at, stage_at}
+use Rattle.core_events.specs.plain_state.declared.slot.Kind.TheVariants.{Strong, Weak}
+use Rattle.core_events.specs.plain_state.declared.slot.SlotId.{SlotId}
+use Rattle.core_events.specs.plain_state.declared.slot.Stage.TheVariants.{Free, Live, Ended}
+use Rattle.core_events.specs.plain_state.declared.slot.PlainSlot.{PlainSlot}
+use Rattle.core_events.specs.plain_state.Lawful.{Lawful, IsVacant, HasNullFields}
+use Rattle.core_events.specs.plain_state.References.{strong_refs, weak_refs, own_reference, dying_times as plain_dying}
+use Rattle.core_events.specs.plain_state.State.{slot_at, stage_at}
 use Rattle.core_events.specs.declared.shape.Shape.{Shape}
 use Rattle.core_events.specs.Words.{slot_in, field_at, weak_field_at}
-use Rattle.counter_word.specs.Words.{has_zero}
+use Rattle.core_events.specs.counter_word.Words.{has_zero}
 use Rattle.core_events.specs.Runs.{Core}
 use Rattle.core_events.specs.Counts.{adds_used}
 use Rattle.core_events.specs.Shows.{shows}

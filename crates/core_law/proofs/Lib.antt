@@ -1,3 +1,4 @@
+pub mod Below
 pub mod Kit
 pub mod Writes
 pub mod Bits

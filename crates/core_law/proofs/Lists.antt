@@ -5,11 +5,11 @@ use Rattle.std.proofs.lemmas.List.{length-set, get_or-set_same, get_or-set_other
 use Rattle.std.proofs.lemmas.List.Sums.{sum_by-cons, sum_by_push}
 use Rattle.std.proofs.lemmas.Bool.{cases_eq}
 use Rattle.std.proofs.lemmas.Bool.Decides.{nat_tests}
-use Rattle.plain_state.specs.declared.slot.SlotId.{SlotId}
-use Rattle.plain_state.specs.declared.slot.PlainSlot.{PlainSlot}
-use Rattle.plain_state.specs.Lists.{holds, cell_times}
-use Rattle.plain_state.specs.References.{held_in, over_seats, over_slots}
-use Rattle.plain_state.specs.State.{PlainSeat}
+use Rattle.core_events.specs.plain_state.declared.slot.SlotId.{SlotId}
+use Rattle.core_events.specs.plain_state.declared.slot.PlainSlot.{PlainSlot}
+use Rattle.core_events.specs.plain_state.Lists.{holds, cell_times}
+use Rattle.core_events.specs.plain_state.References.{held_in, over_seats, over_slots}
+use Rattle.core_events.specs.plain_state.State.{PlainSeat}
 use Rattle.core_events.specs.declared.view.CoreView.{CoreView}
 use Rattle.core_events.specs.Words.{each_from, slot_in}
 use Rattle.core_events.specs.Counts.{in_word, total, sum_below}

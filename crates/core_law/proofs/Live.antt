@@ -2,7 +2,7 @@
 use Rattle.std.proofs.Common.{◌≡◌, ℕ, ◌+◌, ◌^◌, ◌<◌, ◌≤◌, arith}
 use Rattle.std.specs.Prelude.{if◌then◌else◌}
 use Rattle.std.proofs.lemmas.Bool.Decides.{nat_tests}
-use Rattle.counter_word.specs.Words.{ZERO, HELP}
+use Rattle.core_events.specs.counter_word.Words.{ZERO, HELP}
 use Rattle.core_events.specs.Steps.{plus_one, minus_one}
 use Rattle.core_events.specs.Counts.{is_live_word}
 use Rattle.core_law.specs.Slots.{Numbers, SlotLaw}

@@ -1,14 +1,14 @@
 -- The law of a slot by its stage has the parts of the invariant.
 use Rattle.std.proofs.Common.{◌≡◌, ◌≢◌, ◌⊎◌, inl, inr, Bool, length, ℕ, ◌+◌, ◌*◌, ◌^◌, ◌<◌, true, false, refl, ◌∙◌, arith}
 use Rattle.std.proofs.lemmas.Bool.Decides.{nat_tests}
-use Rattle.plain_state.specs.declared.slot.Kind.{Kind}
-use Rattle.plain_state.specs.declared.slot.Kind.TheVariants.{Strong, Weak, Disposal}
-use Rattle.plain_state.specs.declared.slot.Stage.{Stage}
-use Rattle.plain_state.specs.declared.slot.Stage.TheVariants.{Free, Blank, Live, Ended, Husk}
-use Rattle.plain_state.specs.declared.slot.SlotId.{SlotId}
+use Rattle.core_events.specs.plain_state.declared.slot.Kind.{Kind}
+use Rattle.core_events.specs.plain_state.declared.slot.Kind.TheVariants.{Strong, Weak, Disposal}
+use Rattle.core_events.specs.plain_state.declared.slot.Stage.{Stage}
+use Rattle.core_events.specs.plain_state.declared.slot.Stage.TheVariants.{Free, Blank, Live, Ended, Husk}
+use Rattle.core_events.specs.plain_state.declared.slot.SlotId.{SlotId}
 use Rattle.core_events.specs.declared.shape.Shape.{Shape}
 use Rattle.core_events.specs.declared.view.Note.TheVariants as note
-use Rattle.counter_word.specs.Words.{value}
+use Rattle.core_events.specs.counter_word.Words.{value}
 use Rattle.core_events.specs.Views.{note_of}
 use Rattle.core_events.specs.Runs.{Core, view_at}
 use Rattle.core_events.specs.Counts.{stage, stage_of, adds_used, is_live_word, strong, total, guarding, places}

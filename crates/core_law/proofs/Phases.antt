@@ -1,6 +1,6 @@
 -- What the counts of phases are in each phase, and where a seat goes from one phase to another.
 use Rattle.std.proofs.Common.{◌≡◌, ◌≢◌, ℕ, sym, arith}
-use Rattle.plain_state.specs.declared.slot.SlotId.{SlotId}
+use Rattle.core_events.specs.plain_state.declared.slot.SlotId.{SlotId}
 use Rattle.core_events.specs.declared.view.Phase.{Phase}
 use Rattle.core_events.specs.declared.view.Phase.TheVariants as phase
 use Rattle.core_events.specs.Counts.{one, finishing, helping, baring, filling, giving, in_phase}

@@ -2,14 +2,14 @@
 use Rattle.std.proofs.Common.{◌≡◌, ◌≢◌, ℕ, ◌+◌, ◌<◌, ◌≤◌, Bool, true, false, List, length, set, refl, ap, sym, ◌∙◌, arith}
 use Rattle.std.specs.Prelude.{slice_index, if◌then◌else◌, None}
 use Rattle.std.proofs.lemmas.List.{get_or-set_same, get_or-set_other, set-get_or}
-use Rattle.plain_state.specs.declared.slot.SlotId.{SlotId}
-use Rattle.plain_state.specs.Lists.{times}
-use Rattle.plain_state.specs.State.{Plain, PlainSeat, seat_at, with_seat, new_seat}
+use Rattle.core_events.specs.plain_state.declared.slot.SlotId.{SlotId}
+use Rattle.core_events.specs.plain_state.Lists.{times}
+use Rattle.core_events.specs.plain_state.State.{Plain, PlainSeat, seat_at, with_seat, new_seat}
 use Rattle.core_events.specs.declared.shape.Shape.{Shape}
 use Rattle.core_events.specs.declared.view.CoreView.{CoreView}
 use Rattle.core_events.specs.declared.view.Phase.{Phase}
 use Rattle.core_events.specs.Words.{slot_at, note_at, cell_at, weak_cell_at, field_at, weak_field_at, payload_at, strong_at, weak_at, bits_at, bit_in, ticket_at}
-use Rattle.counter_word.specs.Words.{has_zero}
+use Rattle.core_events.specs.counter_word.Words.{has_zero}
 use Rattle.core_events.specs.Runs.{Core, view_at}
 use Rattle.core_events.specs.Counts.{strong, signs, barers, fillers, dying_times, baring, filling, is_live_word}
 use Rattle.core_events.specs.Shows.{shows, show_seat, show_slot, lives, filled}

@@ -2,7 +2,7 @@
 use Rattle.std.proofs.Common.{◌≡◌, ◌≢◌, ℕ, ◌%◌, ◌^◌, ◌<◌, ◌≤◌, Bool, true, false, refl, sym, ◌∙◌, arith}
 use Rattle.std.specs.Prelude.{◌||◌, not, nat_le, nat_lt, if◌then◌else◌}
 use Rattle.std.proofs.lemmas.Bool.Decides.{nat_tests}
-use Rattle.counter_word.specs.Words.{ZERO, HELP, has_zero, has_help, low, value}
+use Rattle.core_events.specs.counter_word.Words.{ZERO, HELP, has_zero, has_help, low, value}
 use Rattle.core_events.specs.Counts.{is_live_word}
 use Rattle.core_events.specs.Steps.{plus_one}
 use Rattle.core_law.proofs.Flags.{live_low}

@@ -3,10 +3,10 @@ use Rattle.std.proofs.Common.{◌≡◌, ◌≢◌, ◌⊎◌, inl, inr, ⊎_eli
 use Rattle.std.specs.Prelude.{if◌then◌else◌}
 use Rattle.std.specs.List.{filter}
 use Rattle.std.proofs.lemmas.Bool.Decides.{nat_tests}
-use Rattle.plain_state.specs.declared.slot.Kind.TheVariants.{Disposal}
-use Rattle.plain_state.specs.declared.slot.SlotId.{SlotId}
-use Rattle.plain_state.specs.Lists.{times}
-use Rattle.plain_state.specs.Ejection.{Announcements, ripens, ripened}
+use Rattle.core_events.specs.plain_state.declared.slot.Kind.TheVariants.{Disposal}
+use Rattle.core_events.specs.plain_state.declared.slot.SlotId.{SlotId}
+use Rattle.core_events.specs.plain_state.Lists.{times}
+use Rattle.core_events.specs.plain_state.Ejection.{Announcements, ripens, ripened}
 use Rattle.core_events.specs.Counts.{one}
 use Rattle.core_law.proofs.Kit.{slot_cases, one_other, times_none, times_cons, times_append}
 

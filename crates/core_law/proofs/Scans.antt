@@ -2,18 +2,18 @@
 use Rattle.std.proofs.Common.{◌≡◌, ◌≢◌, ◌⊎◌, inl, inr, ⊎_elim, ℕ, ◌+◌, ◌*◌, ◌<◌, ◌≤◌, Bool, true, false, List, [], ◌∷◌, ◌++◌, length, set, refl, ap, sym, ◌∙◌, subst, arith, length-append}
 use Rattle.std.specs.Prelude.{slice_index, if◌then◌else◌}
 use Rattle.std.proofs.lemmas.Bool.{cases_lt}
-use Rattle.plain_state.specs.declared.slot.Kind.{Kind}
-use Rattle.plain_state.specs.declared.slot.Kind.TheVariants.{Strong, Weak, Disposal}
-use Rattle.plain_state.specs.declared.slot.SlotId.{SlotId}
-use Rattle.plain_state.specs.Lists.{times, entry_times}
+use Rattle.core_events.specs.plain_state.declared.slot.Kind.{Kind}
+use Rattle.core_events.specs.plain_state.declared.slot.Kind.TheVariants.{Strong, Weak, Disposal}
+use Rattle.core_events.specs.plain_state.declared.slot.SlotId.{SlotId}
+use Rattle.core_events.specs.plain_state.Lists.{times, entry_times}
 use Rattle.core_events.specs.declared.shape.Shape.{Shape}
 use Rattle.core_events.specs.declared.view.CoreView.{CoreView}
 use Rattle.core_events.specs.declared.view.Move.{Move}
 use Rattle.core_events.specs.declared.view.Note.TheVariants as note
 use Rattle.core_events.specs.declared.view.Phase.TheVariants as phase
-use Rattle.announce_slots.specs.Words.{code}
-use Rattle.announce_slots.specs.Seen.{announced_in, seen_times}
-use Rattle.plain_state.specs.Ejection.{kept, ejected, ripens, ripened}
+use Rattle.core_events.specs.announce_slots.Words.{code}
+use Rattle.core_events.specs.announce_slots.Seen.{announced_in, seen_times}
+use Rattle.core_events.specs.plain_state.Ejection.{kept, ejected, ripens, ripened}
 use Rattle.core_events.specs.Views.{no_view, note_of}
 use Rattle.core_events.specs.Steps.{IsIdle}
 use Rattle.core_events.specs.Runs.{Core, view_at}
@@ -25,8 +25,8 @@ use Rattle.core_law.proofs.Kit.{entry_none, total_set, total_at, times_none}
 use Rattle.core_law.proofs.Flags.{live_taken}
 use Rattle.core_law.proofs.Held.{guard_le, total_le}
 use Rattle.core_law.proofs.Ripening.{ripened_times, ripens_not}
-use Rattle.announce_slots.proofs.Counting.{seen_at}
-use Rattle.plain_state.proofs.Ejections.{kept_times, split_times, split_length}
+use Rattle.core_events.proofs.Below.announce_slots.Counting.{seen_at}
+use Rattle.core_events.proofs.Below.plain_state.Ejections.{kept_times, split_times, split_length}
 use Rattle.core_law.proofs.Put.{put, still_sound, at_seat, adds_fit}
 use Rattle.core_law.proofs.Phases.{Counted, in_idle, in_scan}
 use Rattle.core_law.proofs.Steady.{noted_in_range}

@@ -1,8 +1,8 @@
 -- The seat of an event that is enabled is there, and hasn't left.
 use Rattle.std.proofs.Common.{◌≡◌, ⊎_elim, ℕ, Bool, true, false, refl, ap, ◌∙◌, arith}
 use Rattle.std.proofs.lemmas.List.{length-map}
-use Rattle.plain_state.specs.State.{PlainSeat}
-use Rattle.plain_state.specs.Steps.{IsSeat}
+use Rattle.core_events.specs.plain_state.State.{PlainSeat}
+use Rattle.core_events.specs.plain_state.Steps.{IsSeat}
 use Rattle.core_events.specs.declared.act.Act.{Act}
 use Rattle.core_events.specs.declared.act.Act.TheVariants as act
 use Rattle.core_events.specs.declared.shape.Shape.{Shape}

@@ -2,22 +2,22 @@
 use Rattle.std.proofs.Common.{◌≡◌, ℕ, ◌<◌, true, false, List, [], ◌∷◌, ◌++◌, length, refl, ap, sym, ◌∙◌, subst, arith}
 use Rattle.std.specs.Prelude.{slice_index, ◌==◌, nat_lt, Option, None}
 use Rattle.std.proofs.lemmas.Bool.Decides.{nat_tests}
-use Rattle.plain_state.specs.declared.act.PlainAct.TheVariants as plain
-use Rattle.plain_state.specs.declared.slot.Kind.{Kind}
-use Rattle.plain_state.specs.declared.slot.Kind.TheVariants.{Strong, Weak, Disposal}
-use Rattle.plain_state.specs.declared.slot.SlotId.{SlotId}
-use Rattle.plain_state.specs.declared.slot.PlainSlot.{PlainSlot}
-use Rattle.plain_state.specs.Lawful.{IsCovered}
-use Rattle.plain_state.specs.Lists.{Entry, entry_times}
-use Rattle.plain_state.specs.State.{seat_at, with_seat}
-use Rattle.plain_state.specs.Steps.{Row}
+use Rattle.core_events.specs.plain_state.declared.act.PlainAct.TheVariants as plain
+use Rattle.core_events.specs.plain_state.declared.slot.Kind.{Kind}
+use Rattle.core_events.specs.plain_state.declared.slot.Kind.TheVariants.{Strong, Weak, Disposal}
+use Rattle.core_events.specs.plain_state.declared.slot.SlotId.{SlotId}
+use Rattle.core_events.specs.plain_state.declared.slot.PlainSlot.{PlainSlot}
+use Rattle.core_events.specs.plain_state.Lawful.{IsCovered}
+use Rattle.core_events.specs.plain_state.Lists.{Entry, entry_times}
+use Rattle.core_events.specs.plain_state.State.{seat_at, with_seat}
+use Rattle.core_events.specs.plain_state.Steps.{Row}
 use Rattle.core_events.specs.declared.act.Act.TheVariants as act
 use Rattle.core_events.specs.declared.shape.Shape.{Shape}
 use Rattle.core_events.specs.declared.view.CoreView.{CoreView}
 use Rattle.core_events.specs.declared.view.Phase.{Phase}
 use Rattle.core_events.specs.declared.view.Phase.TheVariants as phase
 use Rattle.core_events.specs.Words.{strong_at}
-use Rattle.counter_word.specs.Words.{ZERO, has_zero}
+use Rattle.core_events.specs.counter_word.Words.{ZERO, has_zero}
 use Rattle.core_events.specs.Views.{without}
 use Rattle.core_events.specs.Steps.{noted, plus_one, minus_one, counter_at, decremented, given_up, paid, paid_outcome, owed_at}
 use Rattle.core_events.specs.Runs.{Core, Enabled, view_at}

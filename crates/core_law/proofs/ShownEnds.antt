@@ -3,13 +3,13 @@ use Rattle.std.proofs.Common.{◌≡◌, ◌≢◌, ◌⊎◌, inl, inr, ℕ, �
 use Rattle.std.specs.Prelude.{Some, slice_index, ◌==◌, Option, None}
 use Rattle.std.proofs.lemmas.List.{get_or-set_same, get_or-set_other}
 use Rattle.std.proofs.lemmas.Bool.Decides.{nat_tests}
-use Rattle.plain_state.specs.declared.act.PlainAct.TheVariants as plain
-use Rattle.plain_state.specs.declared.slot.PlainSlot.{PlainSlot}
-use Rattle.plain_state.specs.declared.slot.SlotId.{SlotId}
-use Rattle.plain_state.specs.declared.slot.Stage.TheVariants.{Ended}
-use Rattle.plain_state.specs.References.{strong_refs}
-use Rattle.plain_state.specs.State.{Plain, seat_at, with_seat, with_slot}
-use Rattle.plain_state.specs.Steps.{Row}
+use Rattle.core_events.specs.plain_state.declared.act.PlainAct.TheVariants as plain
+use Rattle.core_events.specs.plain_state.declared.slot.PlainSlot.{PlainSlot}
+use Rattle.core_events.specs.plain_state.declared.slot.SlotId.{SlotId}
+use Rattle.core_events.specs.plain_state.declared.slot.Stage.TheVariants.{Ended}
+use Rattle.core_events.specs.plain_state.References.{strong_refs}
+use Rattle.core_events.specs.plain_state.State.{Plain, seat_at, with_seat, with_slot}
+use Rattle.core_events.specs.plain_state.Steps.{Row}
 use Rattle.core_events.specs.declared.act.Act.TheVariants as act
 use Rattle.core_events.specs.declared.shape.Shape.{Shape}
 use Rattle.core_events.specs.declared.view.CoreView.{CoreView}
@@ -17,7 +17,7 @@ use Rattle.core_events.specs.declared.view.Move.{Move}
 use Rattle.core_events.specs.declared.view.Phase.{Phase}
 use Rattle.core_events.specs.declared.view.Phase.TheVariants as phase
 use Rattle.core_events.specs.Words.{strong_at, bits_at, bit_in}
-use Rattle.counter_word.specs.Words.{ZERO, HELP, has_zero, has_help, value}
+use Rattle.core_events.specs.counter_word.Words.{ZERO, HELP, has_zero, has_help, value}
 use Rattle.core_events.specs.Views.{slot_of}
 use Rattle.core_events.specs.Runs.{Core, Enabled, view_at}
 use Rattle.core_events.specs.Counts.{strong, adds_used, stage, signs, free_bit, is_live_word}

@@ -2,21 +2,21 @@
 use Rattle.std.proofs.Common.{◌≡◌, ℕ, ◌+◌, ◌%◌, ◌^◌, ◌<◌, false, List, [], ◌∷◌, ◌++◌, length, set, refl, ap, sym, ◌∙◌, arith}
 use Rattle.std.specs.Prelude.{slice_index, slice_set, ◌==◌, Option, None}
 use Rattle.std.proofs.lemmas.List.{get_or-set_same, get_or-set_other}
-use Rattle.plain_state.specs.declared.act.PlainAct.TheVariants as plain
-use Rattle.plain_state.specs.declared.slot.SlotId.{SlotId}
-use Rattle.plain_state.specs.declared.slot.PlainSlot.{PlainSlot}
-use Rattle.plain_state.specs.declared.slot.Stage.TheVariants.{Free, Blank, Live, Husk}
-use Rattle.plain_state.specs.Lists.{times}
-use Rattle.plain_state.specs.References.{own_reference}
-use Rattle.plain_state.specs.State.{Plain, seat_at, with_seat, with_slot}
-use Rattle.plain_state.specs.Steps.{Row}
+use Rattle.core_events.specs.plain_state.declared.act.PlainAct.TheVariants as plain
+use Rattle.core_events.specs.plain_state.declared.slot.SlotId.{SlotId}
+use Rattle.core_events.specs.plain_state.declared.slot.PlainSlot.{PlainSlot}
+use Rattle.core_events.specs.plain_state.declared.slot.Stage.TheVariants.{Free, Blank, Live, Husk}
+use Rattle.core_events.specs.plain_state.Lists.{times}
+use Rattle.core_events.specs.plain_state.References.{own_reference}
+use Rattle.core_events.specs.plain_state.State.{Plain, seat_at, with_seat, with_slot}
+use Rattle.core_events.specs.plain_state.Steps.{Row}
 use Rattle.core_events.specs.declared.act.Act.TheVariants as act
 use Rattle.core_events.specs.declared.outcome.Outcome.TheVariants as outcome
 use Rattle.core_events.specs.declared.shape.Shape.{Shape}
 use Rattle.core_events.specs.declared.view.CoreView.{CoreView}
 use Rattle.core_events.specs.declared.view.Phase.TheVariants as phase
 use Rattle.core_events.specs.Words.{slot_in, field_at, weak_field_at, strong_at, weak_at, bits_at, bit_in, bit_alone, payload_at}
-use Rattle.counter_word.specs.Words.{has_zero}
+use Rattle.core_events.specs.counter_word.Words.{has_zero}
 use Rattle.core_events.specs.Views.{slot_of, without}
 use Rattle.core_events.specs.Steps.{noted, minus_one, moved}
 use Rattle.core_events.specs.Runs.{Core, Enabled, view_at}

@@ -3,14 +3,14 @@ use Rattle.std.proofs.Common.{◌≡◌, ◌≢◌, ⊎_elim, ℕ, ◌+◌, ◌<
 use Rattle.std.specs.Prelude.{slice_index, ◌==◌, nat_lt, Option, None}
 use Rattle.std.proofs.lemmas.List.{get_or-set_same, get_or-set_other, map-set}
 use Rattle.std.proofs.lemmas.Bool.Decides.{nat_tests}
-use Rattle.plain_state.specs.declared.act.EventPlace.{EventPlace}
-use Rattle.plain_state.specs.declared.slot.Kind.{Kind}
-use Rattle.plain_state.specs.declared.slot.Kind.TheVariants.{Disposal}
-use Rattle.plain_state.specs.declared.slot.SlotId.{SlotId}
-use Rattle.plain_state.specs.Lists.{Entry, entry_times}
-use Rattle.plain_state.specs.References.{strong_refs}
-use Rattle.plain_state.specs.State.{seat_at, with_seat}
-use Rattle.plain_state.specs.Steps.{Row}
+use Rattle.core_events.specs.plain_state.declared.act.EventPlace.{EventPlace}
+use Rattle.core_events.specs.plain_state.declared.slot.Kind.{Kind}
+use Rattle.core_events.specs.plain_state.declared.slot.Kind.TheVariants.{Disposal}
+use Rattle.core_events.specs.plain_state.declared.slot.SlotId.{SlotId}
+use Rattle.core_events.specs.plain_state.Lists.{Entry, entry_times}
+use Rattle.core_events.specs.plain_state.References.{strong_refs}
+use Rattle.core_events.specs.plain_state.State.{seat_at, with_seat}
+use Rattle.core_events.specs.plain_state.Steps.{Row}
 use Rattle.core_events.specs.declared.act.Act.TheVariants as act
 use Rattle.core_events.specs.declared.outcome.Outcome.TheVariants as outcome
 use Rattle.core_events.specs.declared.shape.Shape.{Shape}
@@ -19,9 +19,9 @@ use Rattle.core_events.specs.declared.view.Note.{Note}
 use Rattle.core_events.specs.declared.view.Note.TheVariants as note
 use Rattle.core_events.specs.declared.view.Phase.TheVariants as phase
 use Rattle.core_events.specs.Words.{slot_in, note_at, cell_at, weak_cell_at, strong_at, weak_at, place_at, payload_at, ticket_at}
-use Rattle.announce_slots.specs.Words.{code}
-use Rattle.counter_word.specs.Words.{value}
-use Rattle.plain_state.specs.Ejection.{kept, ejected}
+use Rattle.core_events.specs.announce_slots.Words.{code}
+use Rattle.core_events.specs.counter_word.Words.{value}
+use Rattle.core_events.specs.plain_state.Ejection.{kept, ejected}
 use Rattle.core_events.specs.Views.{note_of, valid_of, without}
 use Rattle.core_events.specs.declared.view.Move.{Move}
 use Rattle.core_events.specs.Steps.{May, noted, moved, with_note, plus_one, minus_one, is_last, all_seen}
@@ -37,7 +37,7 @@ use Rattle.core_law.proofs.Held.{held_named}
 use Rattle.core_law.proofs.InRange.{readable_in_range}
 use Rattle.core_law.proofs.Parts.{value_is}
 use Rattle.core_law.proofs.Put.{put, at_seat, adds_fit}
-use Rattle.plain_state.proofs.Ejections.{split_times}
+use Rattle.core_events.proofs.Below.plain_state.Ejections.{split_times}
 use Rattle.core_law.proofs.Steady.{named_in_range}
 use Rattle.core_law.proofs.Bridge.{shown_seat, shown_strong}
 use Rattle.core_law.proofs.Does as does

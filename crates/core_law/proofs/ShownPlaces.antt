@@ -2,14 +2,14 @@
 use Rattle.std.proofs.Common.{◌≡◌, ◌≢◌, ℕ, zero, suc, ◌+◌, ◌-◌, ◌<◌, Bool, true, false, refl, ap, sym, ◌∙◌, subst, arith}
 use Rattle.std.specs.Prelude.{slice_index, ◌==◌, if◌then◌else◌, Option, Some, None}
 use Rattle.std.proofs.lemmas.Bool.Decides.{nat_tests}
-use Rattle.plain_state.specs.declared.act.EventPlace.{EventPlace}
-use Rattle.plain_state.specs.declared.act.EventPlace.TheVariants.{Cell, Field, WeakCell, WeakField}
-use Rattle.plain_state.specs.declared.slot.SlotId.{SlotId}
-use Rattle.plain_state.specs.declared.slot.PlainSlot.{PlainSlot}
-use Rattle.plain_state.specs.Lists.{times}
-use Rattle.plain_state.specs.Places.{content, field_of, HoldsStrongly as PlainHoldsStrongly, CanReadFields as PlainCanReadFields, CanDispose, IsOpen as PlainIsOpen, IsReadable as PlainIsReadable, IsDyingField as PlainIsDyingField}
-use Rattle.plain_state.specs.Steps.{word_of}
-use Rattle.plain_state.specs.State.{PlainSeat}
+use Rattle.core_events.specs.plain_state.declared.act.EventPlace.{EventPlace}
+use Rattle.core_events.specs.plain_state.declared.act.EventPlace.TheVariants.{Cell, Field, WeakCell, WeakField}
+use Rattle.core_events.specs.plain_state.declared.slot.SlotId.{SlotId}
+use Rattle.core_events.specs.plain_state.declared.slot.PlainSlot.{PlainSlot}
+use Rattle.core_events.specs.plain_state.Lists.{times}
+use Rattle.core_events.specs.plain_state.Places.{content, field_of, HoldsStrongly as PlainHoldsStrongly, CanReadFields as PlainCanReadFields, CanDispose, IsOpen as PlainIsOpen, IsReadable as PlainIsReadable, IsDyingField as PlainIsDyingField}
+use Rattle.core_events.specs.plain_state.Steps.{word_of}
+use Rattle.core_events.specs.plain_state.State.{PlainSeat}
 use Rattle.core_events.specs.declared.shape.Shape.{Shape}
 use Rattle.core_events.specs.Words.{slot_in, place_at, cell_at, weak_cell_at, field_at}
 use Rattle.core_events.specs.Views.{IsOpen, IsReadable, IsRipeField}

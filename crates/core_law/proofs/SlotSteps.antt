@@ -1,7 +1,7 @@
 -- What each step does to the law of its slot: the numbers go from m to n, and the adds used from a to b. What a step
 -- takes from a number is added to that of n.
 use Rattle.std.proofs.Common.{◌≡◌, ◌≢◌, ℕ, ◌+◌, ◌^◌, ◌<◌, ◌≤◌, arith}
-use Rattle.counter_word.specs.Words.{ZERO, HELP}
+use Rattle.core_events.specs.counter_word.Words.{ZERO, HELP}
 use Rattle.core_events.specs.Steps.{plus_one, minus_one}
 use Rattle.core_law.specs.Slots.{Numbers, SlotLaw, free, bare, blank, counted, asked, over, husk}
 use Rattle.core_law.proofs.SlotSame.{SameNumbers}

@@ -5,9 +5,9 @@ use Rattle.std.proofs.lemmas.List.{get_or_default, get_or_past}
 use Rattle.std.proofs.lemmas.List.Sums.{sum_by-cons}
 use Rattle.std.proofs.lemmas.Bool.{cases_lt}
 use Rattle.std.proofs.lemmas.Bool.Decides.{nat_tests}
-use Rattle.plain_state.specs.declared.slot.Kind.TheVariants.{Strong, Weak}
-use Rattle.plain_state.specs.declared.slot.SlotId.{SlotId}
-use Rattle.plain_state.specs.Lists.{times, entry_times}
+use Rattle.core_events.specs.plain_state.declared.slot.Kind.TheVariants.{Strong, Weak}
+use Rattle.core_events.specs.plain_state.declared.slot.SlotId.{SlotId}
+use Rattle.core_events.specs.plain_state.Lists.{times, entry_times}
 use Rattle.core_events.specs.declared.shape.Shape.{Shape}
 use Rattle.core_events.specs.declared.shape.Quota.{Quota}
 use Rattle.core_events.specs.declared.view.CoreView.{CoreView}

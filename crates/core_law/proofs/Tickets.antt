@@ -4,7 +4,7 @@ use Rattle.std.specs.Prelude.{slice_index, nat_lt, ◌==◌, cond, if◌then◌e
 use Rattle.std.proofs.lemmas.List.{get_or-set_same, get_or-set_other}
 use Rattle.std.proofs.lemmas.List.Sums.{sum_by_push}
 use Rattle.std.proofs.lemmas.Bool.Decides.{nat_tests}
-use Rattle.plain_state.specs.declared.slot.Kind.TheVariants.{Disposal}
+use Rattle.core_events.specs.plain_state.declared.slot.Kind.TheVariants.{Disposal}
 use Rattle.core_events.specs.declared.shape.Shape.{Shape}
 use Rattle.core_events.specs.declared.view.CoreView.{CoreView}
 use Rattle.core_events.specs.declared.view.Move.{Move}

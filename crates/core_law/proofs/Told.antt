@@ -1,11 +1,11 @@
 -- The words count what the plain state shows, and what is held stays.
 use Rattle.std.proofs.Common.{◌≡◌, ◌≢◌, inl, inr, ⊎_elim, ℕ, ◌+◌, ◌<◌, ap, sym, ◌∙◌, arith}
-use Rattle.plain_state.specs.declared.slot.Kind.TheVariants.{Weak}
-use Rattle.plain_state.specs.declared.slot.SlotId.{SlotId}
-use Rattle.plain_state.specs.declared.slot.Stage.{Stage}
-use Rattle.plain_state.specs.declared.slot.Stage.TheVariants.{Free, Blank}
-use Rattle.plain_state.specs.References.{weak_refs, own_reference}
-use Rattle.plain_state.specs.State.{stage_at}
+use Rattle.core_events.specs.plain_state.declared.slot.Kind.TheVariants.{Weak}
+use Rattle.core_events.specs.plain_state.declared.slot.SlotId.{SlotId}
+use Rattle.core_events.specs.plain_state.declared.slot.Stage.{Stage}
+use Rattle.core_events.specs.plain_state.declared.slot.Stage.TheVariants.{Free, Blank}
+use Rattle.core_events.specs.plain_state.References.{weak_refs, own_reference}
+use Rattle.core_events.specs.plain_state.State.{stage_at}
 use Rattle.core_events.specs.declared.shape.Shape.{Shape}
 use Rattle.core_events.specs.Views.{Holds}
 use Rattle.core_events.specs.Runs.{Core, view_at}

@@ -1,16 +1,16 @@
 -- What a core shows of its words and of its events.
 use Rattle.std.specs.Prelude.{ℕ, ◌≡◌, ◌≢◌, ◌⊎◌, ◌<◌, false, List, [], ◌∷◌}
-use Rattle.plain_state.specs.declared.slot.Kind.TheVariants.{Disposal}
-use Rattle.plain_state.specs.declared.slot.SlotId.{SlotId}
-use Rattle.plain_state.specs.declared.slot.Stage.TheVariants.{Free, Live, Ended}
-use Rattle.plain_state.specs.Lists.{entry_times}
-use Rattle.plain_state.specs.References.{strong_refs, weak_refs}
-use Rattle.plain_state.specs.State.{slot_at, stage_at}
-use Rattle.plain_state.specs.Steps.{Does}
+use Rattle.core_events.specs.plain_state.declared.slot.Kind.TheVariants.{Disposal}
+use Rattle.core_events.specs.plain_state.declared.slot.SlotId.{SlotId}
+use Rattle.core_events.specs.plain_state.declared.slot.Stage.TheVariants.{Free, Live, Ended}
+use Rattle.core_events.specs.plain_state.Lists.{entry_times}
+use Rattle.core_events.specs.plain_state.References.{strong_refs, weak_refs}
+use Rattle.core_events.specs.plain_state.State.{slot_at, stage_at}
+use Rattle.core_events.specs.plain_state.Steps.{Does}
 use Rattle.core_events.specs.declared.act.Act.{Act}
 use Rattle.core_events.specs.declared.act.Event.{Event}
 use Rattle.core_events.specs.declared.shape.Shape.{Shape}
-use Rattle.counter_word.specs.Words.{value}
+use Rattle.core_events.specs.counter_word.Words.{value}
 use Rattle.core_events.specs.Views.{snapshots, Holds, HoldsStrongly}
 use Rattle.core_events.specs.Counts.{strong, weak, barers}
 use Rattle.core_events.specs.Runs.{Core, view_at, found, after}

@@ -1,10 +1,10 @@
 -- What holds of one slot, by numbers alone, in each stage of its life.
 use Rattle.std.specs.Prelude.{ℕ, ◌≡◌, ◌+◌, ◌<◌, ◌≤◌, slice_index}
-use Rattle.plain_state.specs.declared.slot.Kind.TheVariants.{Strong, Weak}
-use Rattle.plain_state.specs.declared.slot.SlotId.{SlotId}
+use Rattle.core_events.specs.plain_state.declared.slot.Kind.TheVariants.{Strong, Weak}
+use Rattle.core_events.specs.plain_state.declared.slot.SlotId.{SlotId}
 use Rattle.core_events.specs.declared.shape.Shape.{Shape}
 use Rattle.core_events.specs.Words.{field_at, weak_field_at}
-use Rattle.counter_word.specs.Words.{ZERO, HELP}
+use Rattle.core_events.specs.counter_word.Words.{ZERO, HELP}
 use Rattle.core_events.specs.Runs.{Core}
 use Rattle.core_events.specs.Counts.{refs, finishers, helpers, barers, fillers, givers, dying_times, free_bit, strong as strong_word, weak as weak_word}
 

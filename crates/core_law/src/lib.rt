@@ -17,6 +17,10 @@ mod invariant;
 mod laws;
 mod shown;
 
+pub use core_events::{
+    Act, CoreView, Event, EventPlace, HELP, Kind, Outcome, Phase, Quota, Shape, ShapeField, SlotId,
+    ZERO, announced_as,
+};
 pub use invariant::{sound_is_good, start_is_sound, words_are_there};
 pub use laws::{
     always_good, history_good, history_is_sound, run_has_history, step_keeps, trails_tell,

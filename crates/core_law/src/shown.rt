@@ -1,7 +1,7 @@
 //! What a core shows is lawful, counts as its words do, and goes by plain steps.
 ghost use Rattle.std.specs.Prelude.{ℕ, ◌<◌};
-ghost use Rattle.plain_state.specs.Lawful.{Lawful};
-ghost use Rattle.plain_state.specs.declared.slot.SlotId.{SlotId};
+ghost use Rattle.core_events.specs.plain_state.Lawful.{Lawful};
+ghost use Rattle.core_events.specs.plain_state.declared.slot.SlotId.{SlotId};
 ghost use Rattle.core_events.specs.declared.act.Act.{Act};
 ghost use Rattle.core_events.specs.declared.shape.Shape.{Shape};
 ghost use Rattle.core_events.specs.Runs.{Core, Enabled};

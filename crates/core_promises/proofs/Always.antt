@@ -1,16 +1,16 @@
 -- After every list of events the core shows a lawful plain state, and each of them shows a plain step.
-use Rattle.core_events.specs.declared.act.Event.{Event}
-use Rattle.core_events.specs.declared.shape.Shape.{Shape}
-use Rattle.core_events.specs.Runs.{AreEnabled, AreTerms, Core, History, IsShape, after, run, start}
-use Rattle.core_events.specs.Shows.{shows}
-use Rattle.core_events.specs.Views.{Terms}
+use Rattle.core_law.specs.core_events.declared.act.Event.{Event}
+use Rattle.core_law.specs.core_events.declared.shape.Shape.{Shape}
+use Rattle.core_law.specs.core_events.Runs.{AreEnabled, AreTerms, Core, History, IsShape, after, run, start}
+use Rattle.core_law.specs.core_events.Shows.{shows}
+use Rattle.core_law.specs.core_events.Views.{Terms}
 use Rattle.core_law.specs.Sound.{Sound}
 use Rattle.core_law.proofs.Starts.{start_sound}
 use Rattle.core_law.proofs.Always.{always_sound, history_sound, step_keeps}
 use Rattle.core_law.specs.Shown.{AllShow}
 use Rattle.core_law.proofs.Events.{event_shows}
 use Rattle.core_law.proofs.Lawful.{shows_lawful}
-use Rattle.plain_state.specs.Lawful.{Lawful}
+use Rattle.core_law.specs.plain_state.Lawful.{Lawful}
 use Rattle.std.proofs.Common.{List, [], ◌∷◌}
 
 run_shows : (z : Shape) (c : Core) (es : List Event) → Sound z c → AreEnabled z c es

@@ -2,12 +2,12 @@
 use Rattle.std.proofs.Common.{◌≡◌, ℕ, zero, suc, ◌<◌, ◌≤◌, Bool, true, false, List, [], ◌∷◌, length, get_or, refl, ap, arith}
 use Rattle.std.specs.Prelude.{if◌then◌else◌}
 use Rattle.std.proofs.lemmas.List.Sums.{sum_by-cons}
-use Rattle.core_events.specs.declared.shape.Shape.{Shape}
-use Rattle.core_events.specs.declared.view.CoreView.{CoreView}
-use Rattle.core_events.specs.Counts.{total}
-use Rattle.core_events.specs.Good.{staying_room}
-use Rattle.core_events.specs.Runs.{Core, view_at}
-use Rattle.core_events.specs.Views.{no_view}
+use Rattle.core_law.specs.core_events.declared.shape.Shape.{Shape}
+use Rattle.core_law.specs.core_events.declared.view.CoreView.{CoreView}
+use Rattle.core_law.specs.core_events.Counts.{total}
+use Rattle.core_law.specs.core_events.Good.{staying_room}
+use Rattle.core_law.specs.core_events.Runs.{Core, view_at}
+use Rattle.core_law.specs.core_events.Views.{no_view}
 use Rattle.core_law.specs.Sound.{Sound}
 use Rattle.core_promises.specs.Finds.{DeferredFit, deferred}
 

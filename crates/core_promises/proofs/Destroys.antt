@@ -1,27 +1,27 @@
 -- Over every history each object is destroyed at most once.
 use Rattle.std.proofs.Common.{◌≡◌, ℕ, ◌<◌, Bool, true, false, List, [], ◌∷◌, refl, ap, sym, subst, arith}
 use Rattle.std.specs.Prelude.{◌==◌, Option, Some, None, if◌then◌else◌}
-use Rattle.plain_state.specs.declared.act.PlainAct.{PlainAct}
-use Rattle.plain_state.specs.declared.act.PlainAct.TheVariants as plain
-use Rattle.plain_state.specs.declared.slot.PlainSlot.{PlainSlot}
-use Rattle.plain_state.specs.declared.slot.SlotId.{SlotId}
-use Rattle.plain_state.specs.declared.slot.Stage.TheVariants.{Free}
-use Rattle.plain_state.specs.Lists.{Entry, times}
-use Rattle.core_events.specs.declared.act.Act.{Act}
-use Rattle.core_events.specs.declared.act.Act.TheVariants as act
-use Rattle.core_events.specs.declared.act.Event.{Event}
-use Rattle.core_events.specs.declared.shape.Shape.{Shape}
-use Rattle.core_events.specs.declared.view.CoreView.{CoreView}
-use Rattle.core_events.specs.declared.view.Note.{Note}
-use Rattle.core_events.specs.declared.view.Note.TheVariants as note
-use Rattle.core_events.specs.Counts.{Signs, signs, stage, stage_of}
-use Rattle.core_events.specs.Runs.{AreTerms, Core, Enabled, History, IsShape, after, found, start, view_at}
-use Rattle.core_events.specs.Shows.{show_slot, shows}
-use Rattle.core_events.specs.ShownSteps.{shown_act, ejects, on_slot, releases, is_ripe_field}
-use Rattle.core_events.specs.Steps.{is_last}
-use Rattle.core_events.specs.Views.{Terms, note_of, slot_of}
-use Rattle.core_events.specs.Words.{bit_in}
-use Rattle.counter_word.specs.Words.{has_help}
+use Rattle.core_law.specs.plain_state.declared.act.PlainAct.{PlainAct}
+use Rattle.core_law.specs.plain_state.declared.act.PlainAct.TheVariants as plain
+use Rattle.core_law.specs.plain_state.declared.slot.PlainSlot.{PlainSlot}
+use Rattle.core_law.specs.plain_state.declared.slot.SlotId.{SlotId}
+use Rattle.core_law.specs.plain_state.declared.slot.Stage.TheVariants.{Free}
+use Rattle.core_law.specs.plain_state.Lists.{Entry, times}
+use Rattle.core_law.specs.core_events.declared.act.Act.{Act}
+use Rattle.core_law.specs.core_events.declared.act.Act.TheVariants as act
+use Rattle.core_law.specs.core_events.declared.act.Event.{Event}
+use Rattle.core_law.specs.core_events.declared.shape.Shape.{Shape}
+use Rattle.core_law.specs.core_events.declared.view.CoreView.{CoreView}
+use Rattle.core_law.specs.core_events.declared.view.Note.{Note}
+use Rattle.core_law.specs.core_events.declared.view.Note.TheVariants as note
+use Rattle.core_law.specs.core_events.Counts.{Signs, signs, stage, stage_of}
+use Rattle.core_law.specs.core_events.Runs.{AreTerms, Core, Enabled, History, IsShape, after, found, start, view_at}
+use Rattle.core_law.specs.core_events.Shows.{show_slot, shows}
+use Rattle.core_law.specs.core_events.ShownSteps.{shown_act, ejects, on_slot, releases, is_ripe_field}
+use Rattle.core_law.specs.core_events.Steps.{is_last}
+use Rattle.core_law.specs.core_events.Views.{Terms, note_of, slot_of}
+use Rattle.core_law.specs.core_events.Words.{bit_in}
+use Rattle.core_law.specs.counter_word.Words.{has_help}
 use Rattle.core_law.specs.Sound.{Sound}
 use Rattle.core_law.proofs.Each.{length_each}
 use Rattle.core_law.proofs.FirstWords.{bit_first}

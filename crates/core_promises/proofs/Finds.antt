@@ -2,30 +2,30 @@
 use Rattle.std.proofs.Common.{◌≡◌, ◌≢◌, ℕ, ◌+◌, ◌<◌, ◌≤◌, ◌^◌, Bool, true, false, List, [], ◌∷◌, length, refl, ap, sym, ◌∙◌, subst, arith}
 use Rattle.std.specs.Prelude.{slice_index, nat_lt, ◌==◌, if◌then◌else◌}
 use Rattle.std.proofs.lemmas.Bool.Decides.{nat_tests}
-use Rattle.plain_state.specs.declared.slot.Kind.{Kind}
-use Rattle.plain_state.specs.declared.slot.Kind.TheVariants.{Strong, Weak, Disposal}
-use Rattle.plain_state.specs.declared.slot.SlotId.{SlotId}
-use Rattle.plain_state.specs.Lists.{Entry, times, entry_times}
-use Rattle.core_events.specs.declared.act.Act.{Act}
-use Rattle.core_events.specs.declared.act.Act.TheVariants as act
-use Rattle.core_events.specs.declared.outcome.Outcome.TheVariants as outcome
-use Rattle.core_events.specs.declared.shape.Shape.{Shape}
-use Rattle.core_events.specs.declared.view.CoreView.{CoreView}
-use Rattle.core_events.specs.declared.view.Phase.{Phase}
-use Rattle.core_events.specs.declared.view.Phase.TheVariants as phase
-use Rattle.core_events.specs.Counts.{adds_used, in_phase, listed, naming, refs, strong, weak}
-use Rattle.core_events.specs.Good.{SeatLaw}
-use Rattle.core_events.specs.Runs.{Core, Enabled, found, view_at}
-use Rattle.core_events.specs.Steps.{answer, owed_at}
-use Rattle.core_events.specs.Views.{Holds, slot_noted, slot_of}
-use Rattle.counter_word.specs.Words.{ZERO, HELP, has_help, low, value}
+use Rattle.core_law.specs.plain_state.declared.slot.Kind.{Kind}
+use Rattle.core_law.specs.plain_state.declared.slot.Kind.TheVariants.{Strong, Weak, Disposal}
+use Rattle.core_law.specs.plain_state.declared.slot.SlotId.{SlotId}
+use Rattle.core_law.specs.plain_state.Lists.{Entry, times, entry_times}
+use Rattle.core_law.specs.core_events.declared.act.Act.{Act}
+use Rattle.core_law.specs.core_events.declared.act.Act.TheVariants as act
+use Rattle.core_law.specs.core_events.declared.outcome.Outcome.TheVariants as outcome
+use Rattle.core_law.specs.core_events.declared.shape.Shape.{Shape}
+use Rattle.core_law.specs.core_events.declared.view.CoreView.{CoreView}
+use Rattle.core_law.specs.core_events.declared.view.Phase.{Phase}
+use Rattle.core_law.specs.core_events.declared.view.Phase.TheVariants as phase
+use Rattle.core_law.specs.core_events.Counts.{adds_used, in_phase, listed, naming, refs, strong, weak}
+use Rattle.core_law.specs.core_events.Good.{SeatLaw}
+use Rattle.core_law.specs.core_events.Runs.{Core, Enabled, found, view_at}
+use Rattle.core_law.specs.core_events.Steps.{answer, owed_at}
+use Rattle.core_law.specs.core_events.Views.{Holds, slot_noted, slot_of}
+use Rattle.core_law.specs.counter_word.Words.{ZERO, HELP, has_help, low, value}
 use Rattle.core_law.specs.Slots.{Numbers, SlotLaw, numbers, free, bare, blank, counted, asked, over, husk}
 use Rattle.core_law.specs.Sound.{Sound}
 use Rattle.core_law.proofs.Flags.{flags}
 use Rattle.core_law.proofs.Held.{held_named}
 use Rattle.core_law.proofs.Kit.{one_same, total_at}
 use Rattle.core_law.proofs.Put.{adds_fit}
-use Rattle.plain_state.proofs.Kit.{entry_cons, entry_self}
+use Rattle.core_law.proofs.Below.plain_state.Kit.{entry_cons, entry_self}
 use Rattle.core_law.proofs.Parts.{sound_good, value_is}
 use Rattle.core_law.proofs.Steady.{named_in_range}
 use Rattle.core_promises.specs.Finds.{NeverWraps, TellsTruly}

@@ -4,11 +4,11 @@ use Rattle.std.specs.Prelude.{◌==◌, cond, if◌then◌else◌, nat_lt, slice
 use Rattle.std.proofs.lemmas.List.Sums.{sum_by-cons}
 use Rattle.std.proofs.lemmas.Bool.{cases_eq}
 use Rattle.std.proofs.lemmas.Bool.Decides.{nat_tests}
-use Rattle.core_events.specs.declared.shape.Shape.{Shape}
-use Rattle.core_events.specs.Views.{granted}
-use Rattle.core_events.specs.Runs.{Core, view_at}
-use Rattle.core_events.specs.Counts.{number_times, ticket_times, tickets_drawn}
-use Rattle.core_events.specs.Good.{TicketLaw}
+use Rattle.core_law.specs.core_events.declared.shape.Shape.{Shape}
+use Rattle.core_law.specs.core_events.Views.{granted}
+use Rattle.core_law.specs.core_events.Runs.{Core, view_at}
+use Rattle.core_law.specs.core_events.Counts.{number_times, ticket_times, tickets_drawn}
+use Rattle.core_law.specs.core_events.Good.{TicketLaw}
 use Rattle.core_law.proofs.Kit.{total_at}
 
 -- 1 where they are the same ticket

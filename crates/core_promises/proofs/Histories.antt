@@ -1,9 +1,9 @@
 -- What holds after every list of events holds of every state that has a history.
 use Rattle.std.proofs.Common.{◌≡◌, ℕ, ◌<◌, List, [], ◌∷◌, refl, ◌∙◌, ap, subst}
-use Rattle.core_events.specs.declared.act.Event.{Event}
-use Rattle.core_events.specs.declared.shape.Shape.{Shape}
-use Rattle.core_events.specs.Views.{Terms}
-use Rattle.core_events.specs.Runs.{AreEnabled, AreTerms, Core, History, IsShape, moves_of, newest_first, run, start}
+use Rattle.core_law.specs.core_events.declared.act.Event.{Event}
+use Rattle.core_law.specs.core_events.declared.shape.Shape.{Shape}
+use Rattle.core_law.specs.core_events.Views.{Terms}
+use Rattle.core_law.specs.core_events.Runs.{AreEnabled, AreTerms, Core, History, IsShape, moves_of, newest_first, run, start}
 use Rattle.core_promises.specs.Trails.{trail_of}
 use Rattle.core_promises.proofs.Trails.{trails_tell}
 

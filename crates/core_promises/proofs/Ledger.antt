@@ -3,20 +3,20 @@ use Rattle.std.proofs.Common.{◌≡◌, ◌≢◌, ⊎_elim, ℕ, ◌+◌, ◌<
 use Rattle.std.specs.Prelude.{◌==◌, if◌then◌else◌, Option, None}
 use Rattle.std.proofs.lemmas.List.{get_or-set_same, get_or-set_other}
 use Rattle.std.proofs.lemmas.Bool.Decides.{nat_tests}
-use Rattle.plain_state.specs.declared.act.EventPlace.{EventPlace}
-use Rattle.plain_state.specs.declared.act.EventPlace.TheVariants.{Cell, Field, WeakCell, WeakField}
-use Rattle.plain_state.specs.declared.act.PlainAct.{PlainAct}
-use Rattle.plain_state.specs.declared.act.PlainAct.TheVariants as plain
-use Rattle.plain_state.specs.declared.slot.PlainSlot.{PlainSlot}
-use Rattle.plain_state.specs.declared.slot.SlotId.{SlotId}
-use Rattle.plain_state.specs.declared.slot.Stage.{Stage}
-use Rattle.plain_state.specs.declared.slot.Stage.TheVariants.{Free, Blank, Live, Ended, Husk}
-use Rattle.plain_state.specs.Lawful.{Lawful}
-use Rattle.plain_state.specs.Lists.{is_slot, times}
-use Rattle.plain_state.specs.Places.{with_content, with_field}
-use Rattle.plain_state.specs.State.{Plain, PlainSeat, new_slot, seat_at, slot_at, stage_at, with_slot}
-use Rattle.plain_state.specs.Steps.{Does}
-use Rattle.plain_state.proofs.Kit.{cases_slot, seats_at, times_lost}
+use Rattle.core_law.specs.plain_state.declared.act.EventPlace.{EventPlace}
+use Rattle.core_law.specs.plain_state.declared.act.EventPlace.TheVariants.{Cell, Field, WeakCell, WeakField}
+use Rattle.core_law.specs.plain_state.declared.act.PlainAct.{PlainAct}
+use Rattle.core_law.specs.plain_state.declared.act.PlainAct.TheVariants as plain
+use Rattle.core_law.specs.plain_state.declared.slot.PlainSlot.{PlainSlot}
+use Rattle.core_law.specs.plain_state.declared.slot.SlotId.{SlotId}
+use Rattle.core_law.specs.plain_state.declared.slot.Stage.{Stage}
+use Rattle.core_law.specs.plain_state.declared.slot.Stage.TheVariants.{Free, Blank, Live, Ended, Husk}
+use Rattle.core_law.specs.plain_state.Lawful.{Lawful}
+use Rattle.core_law.specs.plain_state.Lists.{is_slot, times}
+use Rattle.core_law.specs.plain_state.Places.{with_content, with_field}
+use Rattle.core_law.specs.plain_state.State.{Plain, PlainSeat, new_slot, seat_at, slot_at, stage_at, with_slot}
+use Rattle.core_law.specs.plain_state.Steps.{Does}
+use Rattle.core_law.proofs.Below.plain_state.Kit.{cases_slot, seats_at, times_lost}
 use Rattle.core_promises.specs.Destroyed.{standing}
 
 -- 1 for a step that destroys the object in s

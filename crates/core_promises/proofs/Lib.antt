@@ -1,3 +1,4 @@
+pub mod Below
 pub mod Finds
 pub mod Deferred
 pub mod Ledger

@@ -3,28 +3,28 @@ use Rattle.std.proofs.Common.{◌≡◌, ⊎_elim, ℕ, ◌+◌, Bool, true, fal
 use Rattle.std.specs.Prelude.{◌==◌, nat_lt, Option, Some, None, if◌then◌else◌}
 use Rattle.std.proofs.lemmas.List.{append-nil}
 use Rattle.std.proofs.lemmas.List.Sums.{sum_by_push}
-use Rattle.plain_state.specs.declared.slot.Kind.{Kind}
-use Rattle.plain_state.specs.declared.slot.Kind.TheVariants.{Strong, Weak, Disposal}
-use Rattle.plain_state.specs.declared.slot.SlotId.{SlotId}
-use Rattle.plain_state.specs.Lists.{Entry, times}
-use Rattle.plain_state.specs.Places.{place_kind}
-use Rattle.plain_state.specs.Steps.{word_of}
-use Rattle.counter_word.specs.Words.{ZERO, has_help, value}
-use Rattle.core_events.specs.declared.act.Act.{Act}
-use Rattle.core_events.specs.declared.act.Act.TheVariants as act
-use Rattle.core_events.specs.declared.outcome.Outcome.TheVariants as outcome
-use Rattle.core_events.specs.declared.shape.Shape.{Shape}
-use Rattle.core_events.specs.declared.view.CoreView.{CoreView}
-use Rattle.core_events.specs.declared.view.LeftSeat.{LeftSeat}
-use Rattle.core_events.specs.declared.view.Move.{Move}
-use Rattle.core_events.specs.declared.view.Phase.{Phase}
-use Rattle.core_events.specs.declared.view.Phase.TheVariants as phase
-use Rattle.core_events.specs.Words.{bit_in}
-use Rattle.core_events.specs.Shows.{filled}
-use Rattle.core_events.specs.Steps.{May, answer, changed, ended, exchanged, given_up, is_last, is_valid, paid, moved, noted}
-use Rattle.core_events.specs.Runs.{left_behind, taken_over}
+use Rattle.core_law.specs.plain_state.declared.slot.Kind.{Kind}
+use Rattle.core_law.specs.plain_state.declared.slot.Kind.TheVariants.{Strong, Weak, Disposal}
+use Rattle.core_law.specs.plain_state.declared.slot.SlotId.{SlotId}
+use Rattle.core_law.specs.plain_state.Lists.{Entry, times}
+use Rattle.core_law.specs.plain_state.Places.{place_kind}
+use Rattle.core_law.specs.plain_state.Steps.{word_of}
+use Rattle.core_law.specs.counter_word.Words.{ZERO, has_help, value}
+use Rattle.core_law.specs.core_events.declared.act.Act.{Act}
+use Rattle.core_law.specs.core_events.declared.act.Act.TheVariants as act
+use Rattle.core_law.specs.core_events.declared.outcome.Outcome.TheVariants as outcome
+use Rattle.core_law.specs.core_events.declared.shape.Shape.{Shape}
+use Rattle.core_law.specs.core_events.declared.view.CoreView.{CoreView}
+use Rattle.core_law.specs.core_events.declared.view.LeftSeat.{LeftSeat}
+use Rattle.core_law.specs.core_events.declared.view.Move.{Move}
+use Rattle.core_law.specs.core_events.declared.view.Phase.{Phase}
+use Rattle.core_law.specs.core_events.declared.view.Phase.TheVariants as phase
+use Rattle.core_law.specs.core_events.Words.{bit_in}
+use Rattle.core_law.specs.core_events.Shows.{filled}
+use Rattle.core_law.specs.core_events.Steps.{May, answer, changed, ended, exchanged, given_up, is_last, is_valid, paid, moved, noted}
+use Rattle.core_law.specs.core_events.Runs.{left_behind, taken_over}
 use Rattle.core_law.proofs.Trails.{changed_trail}
-use Rattle.core_events.specs.Views.{about, alone, note_of, slot_of}
+use Rattle.core_law.specs.core_events.Views.{about, alone, note_of, slot_of}
 use Rattle.core_promises.specs.Made.{MadeByStarts, claimed_by, making, making_after, started, started_before, starts}
 use Rattle.core_law.proofs.Kit.{times_append, times_none}
 

@@ -3,15 +3,15 @@ use Rattle.std.proofs.Common.{◌≡◌, ◌≢◌, ⊎_elim, ℕ, ◌<◌, List
 use Rattle.std.specs.Prelude.{None}
 use Rattle.std.proofs.lemmas.List.{get_or-set_same, get_or-set_other}
 use Rattle.std.proofs.lemmas.Bool.{cases_eq}
-use Rattle.core_events.specs.declared.act.Act.{Act}
-use Rattle.core_events.specs.declared.act.Act.TheVariants as act
-use Rattle.core_events.specs.declared.act.Event.{Event}
-use Rattle.core_events.specs.declared.shape.Shape.{Shape}
-use Rattle.core_events.specs.declared.view.CoreView.{CoreView}
-use Rattle.core_events.specs.Shows.{filled}
-use Rattle.core_events.specs.Steps.{moved}
-use Rattle.core_events.specs.Views.{Terms, no_view}
-use Rattle.core_events.specs.Runs.{AreTerms, Core, Enabled, History, IsShape, after, found, start, view_at}
+use Rattle.core_law.specs.core_events.declared.act.Act.{Act}
+use Rattle.core_law.specs.core_events.declared.act.Act.TheVariants as act
+use Rattle.core_law.specs.core_events.declared.act.Event.{Event}
+use Rattle.core_law.specs.core_events.declared.shape.Shape.{Shape}
+use Rattle.core_law.specs.core_events.declared.view.CoreView.{CoreView}
+use Rattle.core_law.specs.core_events.Shows.{filled}
+use Rattle.core_law.specs.core_events.Steps.{moved}
+use Rattle.core_law.specs.core_events.Views.{Terms, no_view}
+use Rattle.core_law.specs.core_events.Runs.{AreTerms, Core, Enabled, History, IsShape, after, found, start, view_at}
 use Rattle.core_law.specs.Sound.{Sound}
 use Rattle.core_law.proofs.Joined as joined
 use Rattle.core_law.proofs.Kit.{times_none}

@@ -2,8 +2,8 @@
 use Rattle.std.proofs.Common.{◌≡◌, ◌≢◌, ◌⊎◌, inl, inr, ⊎_elim, ℕ, true, false, List, [], ◌∷◌, ◌++◌, refl, ap, arith}
 use Rattle.std.specs.Prelude.{◌==◌, if◌then◌else◌}
 use Rattle.std.proofs.lemmas.Bool.Decides.{nat_tests}
-use Rattle.core_events.specs.declared.view.LeftSeat.{LeftSeat}
-use Rattle.core_events.specs.declared.view.Move.{Move}
+use Rattle.core_law.specs.core_events.declared.view.LeftSeat.{LeftSeat}
+use Rattle.core_law.specs.core_events.declared.view.Move.{Move}
 use Rattle.core_promises.specs.Trails.{left_trail}
 
 -- a record of seat n is kept

@@ -4,19 +4,19 @@ use Rattle.std.specs.Prelude.{◌==◌, if◌then◌else◌}
 use Rattle.std.proofs.lemmas.List.{append-nil, get_or-set_same, get_or-set_other}
 use Rattle.std.proofs.lemmas.Bool.{cases_eq}
 use Rattle.std.proofs.lemmas.Bool.Decides.{nat_tests}
-use Rattle.plain_state.specs.State.{PlainSeat}
-use Rattle.core_events.specs.declared.act.Act.{Act}
-use Rattle.core_events.specs.declared.act.Act.TheVariants as act
-use Rattle.core_events.specs.declared.act.Event.{Event}
-use Rattle.core_events.specs.declared.outcome.Outcome.TheVariants as outcome
-use Rattle.core_events.specs.declared.shape.Shape.{Shape}
-use Rattle.core_events.specs.declared.shape.Quota.{Quota}
-use Rattle.core_events.specs.declared.view.CoreView.{CoreView}
-use Rattle.core_events.specs.declared.view.LeftSeat.{LeftSeat}
-use Rattle.core_events.specs.declared.view.Move.{Move}
-use Rattle.core_events.specs.Steps.{May, moved, noted}
-use Rattle.core_events.specs.Views.{Terms, first_view, no_view}
-use Rattle.core_events.specs.Runs.{AreEnabled, AreTerms, Core, Enabled, IsShape, after, found, left_behind, moves_of, outcome_of, run, start, taken_over, view_at}
+use Rattle.core_law.specs.plain_state.State.{PlainSeat}
+use Rattle.core_law.specs.core_events.declared.act.Act.{Act}
+use Rattle.core_law.specs.core_events.declared.act.Act.TheVariants as act
+use Rattle.core_law.specs.core_events.declared.act.Event.{Event}
+use Rattle.core_law.specs.core_events.declared.outcome.Outcome.TheVariants as outcome
+use Rattle.core_law.specs.core_events.declared.shape.Shape.{Shape}
+use Rattle.core_law.specs.core_events.declared.shape.Quota.{Quota}
+use Rattle.core_law.specs.core_events.declared.view.CoreView.{CoreView}
+use Rattle.core_law.specs.core_events.declared.view.LeftSeat.{LeftSeat}
+use Rattle.core_law.specs.core_events.declared.view.Move.{Move}
+use Rattle.core_law.specs.core_events.Steps.{May, moved, noted}
+use Rattle.core_law.specs.core_events.Views.{Terms, first_view, no_view}
+use Rattle.core_law.specs.core_events.Runs.{AreEnabled, AreTerms, Core, Enabled, IsShape, after, found, left_behind, moves_of, outcome_of, run, start, taken_over, view_at}
 use Rattle.core_law.specs.Sound.{Sound}
 use Rattle.core_law.proofs.Joined.{is_0, is_j, is_m}
 use Rattle.core_law.proofs.Starts.{first_at, first_trail, start_sound}

@@ -1,16 +1,16 @@
 -- How often the object in a slot was destroyed, and what that says of its lives.
 use Rattle.std.specs.Prelude.{ℕ, ◌≡◌, ◌+◌, List, [], ◌∷◌, if◌then◌else◌}
-use Rattle.plain_state.specs.declared.slot.SlotId.{SlotId}
-use Rattle.plain_state.specs.declared.slot.Stage.{Stage}
-use Rattle.plain_state.specs.declared.slot.Stage.TheVariants.{Free, Blank, Live, Ended, Husk}
-use Rattle.plain_state.specs.Lists.{is_slot}
-use Rattle.core_events.specs.declared.act.Act.{Act}
-use Rattle.core_events.specs.declared.act.Act.TheVariants as act
-use Rattle.core_events.specs.declared.act.Event.{Event}
-use Rattle.core_events.specs.declared.shape.Shape.{Shape}
-use Rattle.core_events.specs.Counts.{stage}
-use Rattle.core_events.specs.Runs.{Core}
-use Rattle.core_events.specs.Shows.{lives}
+use Rattle.core_law.specs.plain_state.declared.slot.SlotId.{SlotId}
+use Rattle.core_law.specs.plain_state.declared.slot.Stage.{Stage}
+use Rattle.core_law.specs.plain_state.declared.slot.Stage.TheVariants.{Free, Blank, Live, Ended, Husk}
+use Rattle.core_law.specs.plain_state.Lists.{is_slot}
+use Rattle.core_law.specs.core_events.declared.act.Act.{Act}
+use Rattle.core_law.specs.core_events.declared.act.Act.TheVariants as act
+use Rattle.core_law.specs.core_events.declared.act.Event.{Event}
+use Rattle.core_law.specs.core_events.declared.shape.Shape.{Shape}
+use Rattle.core_law.specs.core_events.Counts.{stage}
+use Rattle.core_law.specs.core_events.Runs.{Core}
+use Rattle.core_law.specs.core_events.Shows.{lives}
 
 -- 1 for an act that destroys the object in s
 abbrev pub destroys : SlotId → Act → ℕ

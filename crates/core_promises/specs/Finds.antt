@@ -1,19 +1,19 @@
 -- What an event that is enabled finds in its word, what its answer tells, and how much may be deferred.
 use Rattle.std.specs.Prelude.{ℕ, ◌≡◌, ◌+◌, ◌*◌, ◌<◌, ◌≤◌, length}
-use Rattle.plain_state.specs.declared.slot.Kind.TheVariants.{Strong, Disposal}
-use Rattle.plain_state.specs.declared.slot.SlotId.{SlotId}
-use Rattle.core_events.specs.declared.act.Act.{Act}
-use Rattle.core_events.specs.declared.act.Act.TheVariants as act
-use Rattle.core_events.specs.declared.outcome.Outcome.{Outcome}
-use Rattle.core_events.specs.declared.outcome.Outcome.TheVariants as outcome
-use Rattle.core_events.specs.declared.shape.Shape.{Shape}
-use Rattle.core_events.specs.declared.view.CoreView.{CoreView}
-use Rattle.counter_word.specs.Words.{ZERO, HELP, low}
-use Rattle.core_events.specs.declared.view.Note.TheVariants as note
-use Rattle.core_events.specs.declared.view.Phase.TheVariants as phase
-use Rattle.core_events.specs.Views.{note_of, room_of}
-use Rattle.core_events.specs.Counts.{refs, total}
-use Rattle.core_events.specs.Runs.{Core, found, view_at}
+use Rattle.core_law.specs.plain_state.declared.slot.Kind.TheVariants.{Strong, Disposal}
+use Rattle.core_law.specs.plain_state.declared.slot.SlotId.{SlotId}
+use Rattle.core_law.specs.core_events.declared.act.Act.{Act}
+use Rattle.core_law.specs.core_events.declared.act.Act.TheVariants as act
+use Rattle.core_law.specs.core_events.declared.outcome.Outcome.{Outcome}
+use Rattle.core_law.specs.core_events.declared.outcome.Outcome.TheVariants as outcome
+use Rattle.core_law.specs.core_events.declared.shape.Shape.{Shape}
+use Rattle.core_law.specs.core_events.declared.view.CoreView.{CoreView}
+use Rattle.core_law.specs.counter_word.Words.{ZERO, HELP, low}
+use Rattle.core_law.specs.core_events.declared.view.Note.TheVariants as note
+use Rattle.core_law.specs.core_events.declared.view.Phase.TheVariants as phase
+use Rattle.core_law.specs.core_events.Views.{note_of, room_of}
+use Rattle.core_law.specs.core_events.Counts.{refs, total}
+use Rattle.core_law.specs.core_events.Runs.{Core, found, view_at}
 
 -- A counter word never wraps: what adds finds the count below the flags, with room for one more, and what
 -- takes away finds a count. A drop finds it without the zero flag.

@@ -1,15 +1,15 @@
 -- The slots that a seat has made, by its trail.
 use Rattle.std.specs.Prelude.{ℕ, ◌≡◌, ◌+◌, List, [], ◌∷◌, ◌++◌, Option, Some, None, sum_by}
-use Rattle.plain_state.specs.declared.slot.SlotId.{SlotId}
-use Rattle.plain_state.specs.Lists.{times}
-use Rattle.core_events.specs.declared.act.Act.{Act}
-use Rattle.core_events.specs.declared.act.Act.TheVariants as act
-use Rattle.core_events.specs.declared.outcome.Outcome.{Outcome}
-use Rattle.core_events.specs.declared.outcome.Outcome.TheVariants as outcome
-use Rattle.core_events.specs.declared.view.CoreView.{CoreView}
-use Rattle.core_events.specs.declared.view.LeftSeat.{LeftSeat}
-use Rattle.core_events.specs.declared.view.Move.{Move}
-use Rattle.core_events.specs.Views.{alone}
+use Rattle.core_law.specs.plain_state.declared.slot.SlotId.{SlotId}
+use Rattle.core_law.specs.plain_state.Lists.{times}
+use Rattle.core_law.specs.core_events.declared.act.Act.{Act}
+use Rattle.core_law.specs.core_events.declared.act.Act.TheVariants as act
+use Rattle.core_law.specs.core_events.declared.outcome.Outcome.{Outcome}
+use Rattle.core_law.specs.core_events.declared.outcome.Outcome.TheVariants as outcome
+use Rattle.core_law.specs.core_events.declared.view.CoreView.{CoreView}
+use Rattle.core_law.specs.core_events.declared.view.LeftSeat.{LeftSeat}
+use Rattle.core_law.specs.core_events.declared.view.Move.{Move}
+use Rattle.core_law.specs.core_events.Views.{alone}
 
 -- a claim that took the slot's bit
 abbrev pub claimed_by : Outcome → SlotId → Option SlotId → Option SlotId

@@ -1,8 +1,8 @@
 -- The trail of every seat, those that have left among them.
 use Rattle.std.specs.Prelude.{ℕ, ◌==◌, List, [], ◌∷◌, if◌then◌else◌}
-use Rattle.core_events.specs.declared.view.LeftSeat.{LeftSeat}
-use Rattle.core_events.specs.declared.view.Move.{Move}
-use Rattle.core_events.specs.Runs.{Core, view_at}
+use Rattle.core_law.specs.core_events.declared.view.LeftSeat.{LeftSeat}
+use Rattle.core_law.specs.core_events.declared.view.Move.{Move}
+use Rattle.core_law.specs.core_events.Runs.{Core, view_at}
 
 -- the trail that was kept of seat n as it left
 abbrev pub left_trail : ℕ → List LeftSeat → List Move

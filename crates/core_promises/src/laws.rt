@@ -1,14 +1,14 @@
 //! Promises about histories, and about each event that is enabled where the invariant holds.
 ghost use Rattle.std.specs.Prelude.{ℕ, ◌≡◌, ◌<◌, ◌≤◌, List, [], length, sum};
-ghost use Rattle.plain_state.specs.Lawful.{Lawful};
-ghost use Rattle.plain_state.specs.declared.slot.SlotId.{SlotId};
-ghost use Rattle.core_events.specs.declared.act.Act.{Act};
-ghost use Rattle.core_events.specs.declared.act.Event.{Event};
-ghost use Rattle.core_events.specs.declared.shape.Shape.{Shape};
-ghost use Rattle.core_events.specs.Runs.{AreEnabled, AreTerms, Core, Enabled, History, IsShape, found, moves_of, newest_first, run, start, view_at};
-ghost use Rattle.core_events.specs.Shows.{shows};
-ghost use Rattle.core_events.specs.Steps.{answer};
-ghost use Rattle.core_events.specs.Views.{Terms, granted};
+ghost use Rattle.core_law.specs.plain_state.Lawful.{Lawful};
+ghost use Rattle.core_law.specs.plain_state.declared.slot.SlotId.{SlotId};
+ghost use Rattle.core_law.specs.core_events.declared.act.Act.{Act};
+ghost use Rattle.core_law.specs.core_events.declared.act.Event.{Event};
+ghost use Rattle.core_law.specs.core_events.declared.shape.Shape.{Shape};
+ghost use Rattle.core_law.specs.core_events.Runs.{AreEnabled, AreTerms, Core, Enabled, History, IsShape, found, moves_of, newest_first, run, start, view_at};
+ghost use Rattle.core_law.specs.core_events.Shows.{shows};
+ghost use Rattle.core_law.specs.core_events.Steps.{answer};
+ghost use Rattle.core_law.specs.core_events.Views.{Terms, granted};
 ghost use Rattle.core_law.specs.Sound.{Sound};
 ghost use Rattle.core_law.specs.Shown.{AllShow};
 ghost use Rattle.core_promises.specs.Finds.{DeferredFit, NeverWraps, TellsTruly};

@@ -11,6 +11,9 @@
 
 mod laws;
 
+pub use core_law::{
+    Act, EventPlace, Kind, Outcome, Phase, Quota, Shape, ShapeField, SlotId, announced_as,
+};
 pub use laws::{
     always_lawful, always_shows, answers_tell_truly, deferred_fit, destroyed_once, grants_fit,
     history_lawful, history_runs, history_trails, made_by_starts, never_wraps, trails_tell,

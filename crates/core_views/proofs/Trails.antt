@@ -1,26 +1,26 @@
 -- Neither what an act answers nor what it changes hangs on the trail.
 use Rattle.std.proofs.Common.{◌≡◌, inl, inr, ⊎_elim, ℕ, Bool, true, false, List, [], ◌∷◌, ◌++◌, ◌+◌, refl}
 use Rattle.std.specs.Prelude.{if◌then◌else◌, ◌==◌, nat_lt, Option, Some, None}
-use Rattle.plain_state.specs.declared.act.EventPlace.{EventPlace}
-use Rattle.plain_state.specs.declared.act.EventPlace.TheVariants.{Cell, Field, WeakCell, WeakField}
-use Rattle.plain_state.specs.declared.slot.Kind.{Kind}
-use Rattle.plain_state.specs.declared.slot.Kind.TheVariants.{Strong, Weak, Disposal}
-use Rattle.plain_state.specs.declared.slot.SlotId.{SlotId}
-use Rattle.plain_state.specs.Lists.{Entry}
-use Rattle.plain_state.specs.Places.{place_kind}
-use Rattle.plain_state.specs.Steps.{word_of}
-use Rattle.core_events.specs.declared.act.Act.{Act}
-use Rattle.core_events.specs.declared.act.Act.TheVariants as act
-use Rattle.core_events.specs.declared.shape.Shape.{Shape}
-use Rattle.core_events.specs.declared.view.CoreView.{CoreView}
-use Rattle.core_events.specs.declared.view.Move.{Move}
-use Rattle.core_events.specs.declared.view.Phase.{Phase}
-use Rattle.core_events.specs.Steps.{May, CanGive, answer, changed, given_up, paid, ended, exchanged, is_last, all_seen, is_valid, with_note, validated}
-use Rattle.plain_state.specs.Ejection.{ripened, kept, ejected}
-use Rattle.core_events.specs.declared.view.Phase.TheVariants as phase
-use Rattle.core_events.specs.Words.{bit_in}
-use Rattle.counter_word.specs.Words.{ZERO, has_help, value}
-use Rattle.core_events.specs.Views.{IsOpen, IsReadable, IsRipeField, about, note_of, slot_of, without}
+use Rattle.core_functions.specs.plain_state.declared.act.EventPlace.{EventPlace}
+use Rattle.core_functions.specs.plain_state.declared.act.EventPlace.TheVariants.{Cell, Field, WeakCell, WeakField}
+use Rattle.core_functions.specs.plain_state.declared.slot.Kind.{Kind}
+use Rattle.core_functions.specs.plain_state.declared.slot.Kind.TheVariants.{Strong, Weak, Disposal}
+use Rattle.core_functions.specs.plain_state.declared.slot.SlotId.{SlotId}
+use Rattle.core_functions.specs.plain_state.Lists.{Entry}
+use Rattle.core_functions.specs.plain_state.Places.{place_kind}
+use Rattle.core_functions.specs.plain_state.Steps.{word_of}
+use Rattle.core_functions.specs.core_events.declared.act.Act.{Act}
+use Rattle.core_functions.specs.core_events.declared.act.Act.TheVariants as act
+use Rattle.core_functions.specs.core_events.declared.shape.Shape.{Shape}
+use Rattle.core_functions.specs.core_events.declared.view.CoreView.{CoreView}
+use Rattle.core_functions.specs.core_events.declared.view.Move.{Move}
+use Rattle.core_functions.specs.core_events.declared.view.Phase.{Phase}
+use Rattle.core_functions.specs.core_events.Steps.{May, CanGive, answer, changed, given_up, paid, ended, exchanged, is_last, all_seen, is_valid, with_note, validated}
+use Rattle.core_functions.specs.plain_state.Ejection.{ripened, kept, ejected}
+use Rattle.core_functions.specs.core_events.declared.view.Phase.TheVariants as phase
+use Rattle.core_functions.specs.core_events.Words.{bit_in}
+use Rattle.core_functions.specs.counter_word.Words.{ZERO, has_help, value}
+use Rattle.core_functions.specs.core_events.Views.{IsOpen, IsReadable, IsRipeField, about, note_of, slot_of, without}
 
 -- the view with this trail
 abbrev with : List Move → CoreView → CoreView

@@ -1,12 +1,12 @@
 -- What keeps the numbers of a seat in their ranges. Every state that events reach has it.
 use Rattle.std.specs.Prelude.{ℕ, ◌≡◌, ◌+◌, ◌<◌, ◌≤◌, ◌^◌, length, ◌-◌}
-use Rattle.plain_state.specs.declared.slot.SlotId.{SlotId}
-use Rattle.core_events.specs.declared.act.Act.{Act}
-use Rattle.core_events.specs.declared.act.Act.TheVariants as act
-use Rattle.core_events.specs.declared.shape.Shape.{Shape}
-use Rattle.core_events.specs.declared.view.CoreView.{CoreView}
-use Rattle.core_events.specs.declared.view.Phase.TheVariants as phase
-use Rattle.core_events.specs.Views.{allowed_makes}
+use Rattle.core_functions.specs.plain_state.declared.slot.SlotId.{SlotId}
+use Rattle.core_functions.specs.core_events.declared.act.Act.{Act}
+use Rattle.core_functions.specs.core_events.declared.act.Act.TheVariants as act
+use Rattle.core_functions.specs.core_events.declared.shape.Shape.{Shape}
+use Rattle.core_functions.specs.core_events.declared.view.CoreView.{CoreView}
+use Rattle.core_functions.specs.core_events.declared.view.Phase.TheVariants as phase
+use Rattle.core_functions.specs.core_events.Views.{allowed_makes}
 
 -- the seat has room for what it has retired and owes, its makes and the words that its scan has
 -- read can be counted, and it has an add for the slot that it fills

@@ -1,22 +1,20 @@
 //! Announcements: written, found valid or alive, taken back, read by a scan.
 ghost use Rattle.std.specs.Prelude.{◌≡◌, ◌<◌, ◌+◌, ◌-◌, ◌^◌, ◌≤◌, ◌==◌, ◌++◌, ◌∷◌, [], nat_lt, IfOk, OnOk, OnErr, length, vec_len, if◌then◌else◌};
 ghost use Rattle.std.specs.VecDeque.{deque_len};
-ghost use Rattle.core_events.specs.declared.outcome.Outcome.TheVariants as outcome;
-ghost use Rattle.core_events.specs.declared.view.Phase.TheVariants as phase;
-ghost use Rattle.plain_state.specs.Limits.{words_of_seat};
-ghost use Rattle.plain_state.specs.Ejection.{kept, ejected, ripened};
-ghost use Rattle.core_events.specs.Words.{slot_in};
-ghost use Rattle.counter_word.specs.Words.{value};
-ghost use Rattle.core_events.specs.Views.{note_of};
-ghost use Rattle.core_events.specs.Steps.{is_valid, validated, with_note, is_last, all_seen, scanned};
+ghost use Rattle.core_functions.specs.core_events.declared.outcome.Outcome.TheVariants as outcome;
+ghost use Rattle.core_functions.specs.core_events.declared.view.Phase.TheVariants as phase;
+ghost use Rattle.core_functions.specs.plain_state.Limits.{words_of_seat};
+ghost use Rattle.core_functions.specs.plain_state.Ejection.{kept, ejected, ripened};
+ghost use Rattle.core_functions.specs.core_events.Words.{slot_in};
+ghost use Rattle.core_functions.specs.counter_word.Words.{value};
+ghost use Rattle.core_functions.specs.core_events.Views.{note_of};
+ghost use Rattle.core_functions.specs.core_events.Steps.{is_valid, validated, with_note, is_last, all_seen, scanned};
 
 use crate::holdings::Holdings;
-use core_events::{Note, Outcome, Phase, Shape, SlotId};
 use core_functions::{
-    Parts, announced_by, announcement_words, found_in, is_valid, note_of, ripened, split, validated,
+    Note, OutOfMemory, Outcome, Parts, Phase, Shape, SlotId, announced_by, announcement_words,
+    found_in, is_valid, note_of, ripened, split, validated, value,
 };
-use counter_word::value;
-use out_of_memory::OutOfMemory;
 
 impl Holdings {
     /// Another note for an announcement word.

@@ -1,12 +1,10 @@
 //! What each act answers and changes.
 ghost use Rattle.std.specs.Prelude.{◌≡◌, IfOk, OnErr};
-ghost use Rattle.core_events.specs.Steps.{May, answer, changed};
+ghost use Rattle.core_functions.specs.core_events.Steps.{May, answer, changed};
 ghost use Rattle.core_views.specs.Fits.{IsFit, IsWordFor};
 
 use crate::holdings::Holdings;
-use core_events::{Act, Kind, Note, Outcome, Phase, Shape};
-use core_functions::{found_in, kind_of};
-use out_of_memory::OutOfMemory;
+use core_functions::{Act, Kind, Note, OutOfMemory, Outcome, Phase, Shape, found_in, kind_of};
 
 impl Holdings {
     /// Makes the act, which finds the word.

@@ -1,19 +1,19 @@
 //! What a seat may do, by what it has.
 ghost use Rattle.std.specs.Prelude.{◌≡◌, ◌≢◌, ◌↔◌, ◌⊎◌, ◌+◌, ◌<◌, ◌≤◌, ◌^◌, ℕ, IsTrue, [], length};
-ghost use Rattle.plain_state.specs.Limits.{words_of_seat};
-ghost use Rattle.plain_state.specs.declared.slot.Kind.TheVariants.{Disposal};
-ghost use Rattle.plain_state.specs.declared.slot.SlotId.{SlotId};
-ghost use Rattle.plain_state.specs.Lists.{times};
-ghost use Rattle.core_events.specs.declared.act.Act.TheVariants as act;
-ghost use Rattle.core_events.specs.declared.view.Note.TheVariants as note;
-ghost use Rattle.core_events.specs.declared.view.Phase.TheVariants as phase;
-ghost use Rattle.core_events.specs.Views.{allowed_makes, note_of, CanReadFields, Holds, HoldsStrongly, IsOpen, IsReadable, IsRipeField};
-ghost use Rattle.core_events.specs.Steps.{IsIdle, HasAdd, HasMake, HasRoom, CanGive, IsContent, CanLeave, May};
+ghost use Rattle.core_functions.specs.plain_state.Limits.{words_of_seat};
+ghost use Rattle.core_functions.specs.plain_state.declared.slot.Kind.TheVariants.{Disposal};
+ghost use Rattle.core_functions.specs.plain_state.declared.slot.SlotId.{SlotId};
+ghost use Rattle.core_functions.specs.plain_state.Lists.{times};
+ghost use Rattle.core_functions.specs.core_events.declared.act.Act.TheVariants as act;
+ghost use Rattle.core_functions.specs.core_events.declared.view.Note.TheVariants as note;
+ghost use Rattle.core_functions.specs.core_events.declared.view.Phase.TheVariants as phase;
+ghost use Rattle.core_functions.specs.core_events.Views.{allowed_makes, note_of, CanReadFields, Holds, HoldsStrongly, IsOpen, IsReadable, IsRipeField};
+ghost use Rattle.core_functions.specs.core_events.Steps.{IsIdle, HasAdd, HasMake, HasRoom, CanGive, IsContent, CanLeave, May};
 
 use crate::holdings::Holdings;
-use core_events::{EventPlace, Kind, Note, Phase, Shape, SlotId};
 use core_functions::{
-    are_idle, grant_more, has_slot, has_snapshot, is_content, is_filling, kind_of,
+    EventPlace, Kind, Note, Phase, Shape, SlotId, are_idle, grant_more, has_slot, has_snapshot,
+    is_content, is_filling, kind_of,
 };
 
 impl Holdings {

@@ -1,16 +1,13 @@
 //! References and tickets that a seat gains, and references that it gives up.
 ghost use Rattle.std.specs.Prelude.{◌≡◌, ◌<◌, ◌+◌, ◌++◌, ◌∷◌, [], nat_lt, IfOk, OnOk, OnErr, Some, if◌then◌else◌};
-ghost use Rattle.plain_state.specs.declared.slot.Kind.TheVariants.{Weak};
-ghost use Rattle.core_events.specs.declared.outcome.Outcome.TheVariants as outcome;
-ghost use Rattle.counter_word.specs.Words.{ZERO};
-ghost use Rattle.core_events.specs.Views.{without};
-ghost use Rattle.core_events.specs.Steps.{HasAdd, decremented, given_up, paid, paid_outcome, without_given};
+ghost use Rattle.core_functions.specs.plain_state.declared.slot.Kind.TheVariants.{Weak};
+ghost use Rattle.core_functions.specs.core_events.declared.outcome.Outcome.TheVariants as outcome;
+ghost use Rattle.core_functions.specs.counter_word.Words.{ZERO};
+ghost use Rattle.core_functions.specs.core_events.Views.{without};
+ghost use Rattle.core_functions.specs.core_events.Steps.{HasAdd, decremented, given_up, paid, paid_outcome, without_given};
 
 use crate::holdings::Holdings;
-use core_events::{Kind, Outcome, SlotId};
-use core_functions::take_first;
-use counter_word::ZERO;
-use out_of_memory::OutOfMemory;
+use core_functions::{Kind, OutOfMemory, Outcome, SlotId, ZERO, take_first};
 
 impl Holdings {
     /// One more strong reference, unless the zero flag stood. It uses an add in any case.

@@ -1,18 +1,15 @@
 //! A slot's object ends, and a slot is claimed, armed and made.
 ghost use Rattle.std.specs.Prelude.{◌≡◌, ◌==◌, ◌<◌, ◌+◌, ◌^◌, ◌++◌, ◌∷◌, [], IfOk, OnOk, OnErr, if◌then◌else◌};
-ghost use Rattle.plain_state.specs.declared.slot.SlotId.{SlotId};
-ghost use Rattle.core_events.specs.declared.outcome.Outcome.TheVariants as outcome;
-ghost use Rattle.core_events.specs.declared.view.Phase.TheVariants as phase;
-ghost use Rattle.core_events.specs.Words.{bit_in};
-ghost use Rattle.counter_word.specs.Words.{has_help};
-ghost use Rattle.core_events.specs.Views.{about, allowed_makes, alone, slot_of};
-ghost use Rattle.core_events.specs.Steps.{HasAdd, HasMake, ended};
+ghost use Rattle.core_functions.specs.plain_state.declared.slot.SlotId.{SlotId};
+ghost use Rattle.core_functions.specs.core_events.declared.outcome.Outcome.TheVariants as outcome;
+ghost use Rattle.core_functions.specs.core_events.declared.view.Phase.TheVariants as phase;
+ghost use Rattle.core_functions.specs.core_events.Words.{bit_in};
+ghost use Rattle.core_functions.specs.counter_word.Words.{has_help};
+ghost use Rattle.core_functions.specs.core_events.Views.{about, allowed_makes, alone, slot_of};
+ghost use Rattle.core_functions.specs.core_events.Steps.{HasAdd, HasMake, ended};
 
 use crate::holdings::Holdings;
-use core_events::{Outcome, Phase, SlotId};
-use core_functions::has_bit;
-use counter_word::has_help;
-use out_of_memory::OutOfMemory;
+use core_functions::{OutOfMemory, Outcome, Phase, SlotId, has_bit, has_help};
 
 impl Holdings {
     /// Ends the object whose strong word it took to 0, unless somebody was quicker.

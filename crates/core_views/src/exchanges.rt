@@ -1,14 +1,12 @@
 //! Contents of places that a seat changes.
 ghost use Rattle.std.specs.Prelude.{◌≡◌, ◌<◌, ◌^◌, ◌==◌, IfOk, OnOk, OnErr, if◌then◌else◌};
-ghost use Rattle.core_events.specs.declared.outcome.Outcome.TheVariants as outcome;
-ghost use Rattle.plain_state.specs.Steps.{word_of};
-ghost use Rattle.core_events.specs.Words.{slot_in};
-ghost use Rattle.core_events.specs.Steps.{exchanged, without_given};
+ghost use Rattle.core_functions.specs.core_events.declared.outcome.Outcome.TheVariants as outcome;
+ghost use Rattle.core_functions.specs.plain_state.Steps.{word_of};
+ghost use Rattle.core_functions.specs.core_events.Words.{slot_in};
+ghost use Rattle.core_functions.specs.core_events.Steps.{exchanged, without_given};
 
 use crate::holdings::Holdings;
-use core_events::{Kind, Outcome, SlotId};
-use core_functions::{found_in, held_as, retire, take_first};
-use out_of_memory::OutOfMemory;
+use core_functions::{Kind, OutOfMemory, Outcome, SlotId, found_in, held_as, retire, take_first};
 
 impl Holdings {
     /// The reference of this kind is no longer the seat's. No reference is of the kind `Disposal`.

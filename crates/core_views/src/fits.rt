@@ -3,8 +3,7 @@ ghost use Rattle.std.specs.Prelude.{◌↔◌, IsTrue};
 ghost use Rattle.core_views.specs.Fits.{IsFit, IsWordFor};
 
 use crate::seat::OwnView;
-use core_events::{Act, Shape};
-use core_functions::is_filling;
+use core_functions::{Act, Shape, is_filling};
 
 /// Whether the act can find the word: on a place a word is 0, or the number of a slot of the domain
 /// and one.

@@ -1,10 +1,8 @@
 //! What a seat has, but for its trail.
 ghost use Rattle.std.specs.Prelude.{◌≡◌, ◌<◌, ◌^◌, IfOk};
-ghost use Rattle.core_events.specs.Views.{room_of, first_view};
+ghost use Rattle.core_functions.specs.core_events.Views.{room_of, first_view};
 
-use core_events::{Kind, Move, Note, Phase, Quota, Shape, SlotId};
-use core_functions::room_for;
-use out_of_memory::OutOfMemory;
+use core_functions::{Kind, Move, Note, OutOfMemory, Phase, Quota, Shape, SlotId, room_for};
 use std::alloc::Global;
 use std::collections::VecDeque;
 use std::marker::Model;
@@ -18,7 +16,7 @@ pub struct PastSeat {
 }
 
 impl Model for PastSeat {
-    ghost use Rattle.core_events.specs.declared.view.LeftSeat.{LeftSeat};
+    ghost use Rattle.core_functions.specs.core_events.declared.view.LeftSeat.{LeftSeat};
 
     ghost Value = { LeftSeat };
 
@@ -58,7 +56,7 @@ pub(crate) struct Holdings {
 
 impl Model for Holdings {
     ghost use Rattle.std.specs.Prelude.{◌<◌, ◌^◌, []};
-    ghost use Rattle.core_events.specs.declared.view.CoreView.{CoreView};
+    ghost use Rattle.core_functions.specs.core_events.declared.view.CoreView.{CoreView};
 
     ghost Value = { CoreView };
 

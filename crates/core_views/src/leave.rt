@@ -1,16 +1,14 @@
 //! A seat leaves, and the first one takes over what it had.
 ghost use Rattle.std.specs.Prelude.{◌≡◌, ◌+◌, ◌<◌, ◌≤◌, ◌^◌, ◌++◌, [], OnOk, OnErr, vec_len, vec_capacity};
-ghost use Rattle.core_events.specs.declared.act.Act.TheVariants as act;
-ghost use Rattle.core_events.specs.declared.outcome.Outcome.TheVariants as outcome;
-ghost use Rattle.core_events.specs.Views.{room_of};
-ghost use Rattle.core_events.specs.Steps.{noted};
-ghost use Rattle.core_events.specs.Runs.{taken_over, left_behind};
+ghost use Rattle.core_functions.specs.core_events.declared.act.Act.TheVariants as act;
+ghost use Rattle.core_functions.specs.core_events.declared.outcome.Outcome.TheVariants as outcome;
+ghost use Rattle.core_functions.specs.core_events.Views.{room_of};
+ghost use Rattle.core_functions.specs.core_events.Steps.{noted};
+ghost use Rattle.core_functions.specs.core_events.Runs.{taken_over, left_behind};
 
 use crate::holdings::{Holdings, PastSeat};
 use crate::seat::OwnView;
-use core_events::{Act, Move, Outcome};
-use core_functions::{move_all, room_for};
-use out_of_memory::OutOfMemory;
+use core_functions::{Act, Move, OutOfMemory, Outcome, move_all, room_for};
 use std::mem;
 
 impl Holdings {

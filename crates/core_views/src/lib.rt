@@ -33,15 +33,12 @@ mod places;
 mod reads;
 mod seat;
 mod table;
-#[cfg(test)]
-mod tests;
-#[cfg(test)]
-mod tests_disposal;
-#[cfg(test)]
-mod tests_places;
 
-pub use core_events::{Act, EventPlace, Kind, Move, Note, Outcome, Phase, Quota, Shape, SlotId};
+pub use core_functions::{
+    Act, EventPlace, Kind, Move, Note, OutOfMemory, Outcome, Phase, Quota, Shape, SlotId,
+    bit_alone, bits_index, first_bad, first_words, has_bit, held_as, is_content, one_first_bad,
+    slot_in_phase, slot_index,
+};
 pub use fits::is_word_for;
 pub use holdings::PastSeat;
-pub use out_of_memory::OutOfMemory;
 pub use seat::OwnView;

@@ -1,15 +1,12 @@
 //! Phases that a seat goes into by the word that it found.
 ghost use Rattle.std.specs.Prelude.{◌≡◌, ◌==◌, ◌++◌, ◌∷◌, [], OnOk, OnErr, if◌then◌else◌};
-ghost use Rattle.core_events.specs.declared.outcome.Outcome.TheVariants as outcome;
-ghost use Rattle.core_events.specs.declared.view.Phase.TheVariants as phase;
-ghost use Rattle.counter_word.specs.Words.{value};
-ghost use Rattle.core_events.specs.Steps.{decremented, given_up};
+ghost use Rattle.core_functions.specs.core_events.declared.outcome.Outcome.TheVariants as outcome;
+ghost use Rattle.core_functions.specs.core_events.declared.view.Phase.TheVariants as phase;
+ghost use Rattle.core_functions.specs.counter_word.Words.{value};
+ghost use Rattle.core_functions.specs.core_events.Steps.{decremented, given_up};
 
 use crate::holdings::Holdings;
-use core_events::{Kind, Outcome, Phase, SlotId};
-use core_functions::given_up;
-use counter_word::value;
-use out_of_memory::OutOfMemory;
+use core_functions::{Kind, OutOfMemory, Outcome, Phase, SlotId, given_up, value};
 
 impl Holdings {
     /// Goes into a phase.

@@ -1,14 +1,14 @@
 //! Where the words are that a seat's phase, its notes and its owed entries are about.
 ghost use Rattle.std.specs.Prelude.{◌≡◌};
-ghost use Rattle.core_events.specs.Words.{strong_at};
-ghost use Rattle.core_events.specs.Views.{note_of, of_slot, slot_noted, slot_of};
-ghost use Rattle.core_events.specs.Steps.{owed_at};
+ghost use Rattle.core_functions.specs.core_events.Words.{strong_at};
+ghost use Rattle.core_functions.specs.core_events.Views.{note_of, of_slot, slot_noted, slot_of};
+ghost use Rattle.core_functions.specs.core_events.Steps.{owed_at};
 ghost use Rattle.core_views.specs.Places.{word_in};
 
 use crate::holdings::Holdings;
-use core_events::{Act, Kind, Shape};
 use core_functions::{
-    bits_index, counter_index, note_of, payload_index, slot_in_note, slot_in_phase, slot_index,
+    Act, Kind, Shape, bits_index, counter_index, note_of, payload_index, slot_in_note,
+    slot_in_phase, slot_index,
 };
 
 impl Holdings {

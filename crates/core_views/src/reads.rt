@@ -3,7 +3,7 @@ ghost use Rattle.std.specs.Prelude.{◌≡◌};
 
 use crate::holdings::PastSeat;
 use crate::seat::OwnView;
-use core_events::{Kind, Move, Note, Phase, Quota, Shape, SlotId};
+use core_functions::{Kind, Move, Note, Phase, Quota, Shape, SlotId};
 use std::collections::VecDeque;
 
 impl OwnView {

@@ -1,6 +1,6 @@
 //! A seat's half of the table of events, as a value.
 use crate::holdings::Holdings;
-use core_events::Move;
+use core_functions::Move;
 use std::marker::Model;
 
 /// What one seat has. Its value, in contracts, is the seat's view.
@@ -11,7 +11,7 @@ pub struct OwnView {
 }
 
 impl Model for OwnView {
-    ghost use Rattle.core_events.specs.declared.view.CoreView.{CoreView};
+    ghost use Rattle.core_functions.specs.core_events.declared.view.CoreView.{CoreView};
 
     ghost Value = { CoreView };
 

@@ -1,17 +1,16 @@
 //! The table of events: when a seat may make an act, which word the act is on, what it does.
 ghost use Rattle.std.specs.Prelude.{◌≡◌, ◌↔◌, ◌<◌, ◌^◌, IsTrue, IfOk, OnErr};
-ghost use Rattle.core_events.specs.Views.{room_of, first_view};
-ghost use Rattle.core_events.specs.Steps.{May, CanLeave, answer, moved, place};
+ghost use Rattle.core_functions.specs.core_events.Views.{room_of, first_view};
+ghost use Rattle.core_functions.specs.core_events.Steps.{May, CanLeave, answer, moved, place};
 ghost use Rattle.core_views.specs.Fits.{IsFit, IsWordFor};
 
 use crate::holdings::Holdings;
 use crate::seat::OwnView;
-use core_events::{Act, Kind, Move, Outcome, Quota, Shape};
 use core_functions::{
-    bits_index, is_arming, is_filling, is_finishing, is_giving, is_helping, is_marking, kind_of,
-    note_index, payload_index, place_index, slot_index, ticket_index,
+    Act, Kind, Move, OutOfMemory, Outcome, Quota, Shape, bits_index, is_arming, is_filling,
+    is_finishing, is_giving, is_helping, is_marking, kind_of, note_index, payload_index,
+    place_index, slot_index, ticket_index,
 };
-use out_of_memory::OutOfMemory;
 use std::alloc::Global;
 
 impl OwnView {

@@ -17,10 +17,8 @@
 mod handle;
 mod place;
 mod refusal;
-#[cfg(test)]
-mod tests;
 
 pub use handle::{Strong, Weak};
 pub use place::{Place, WeakPlace};
-pub use plain_state::SlotId;
+pub use plain_state::{Heap, PayloadKind, RecordKind, SlotId, SlotImage, record_of};
 pub use refusal::{LoadError, Spent};

@@ -18,8 +18,6 @@
 #![tactic(auto)]
 
 mod outcome;
-#[cfg(test)]
-mod tests;
 mod word;
 
 pub use outcome::{Fin, Sub};

@@ -15,7 +15,6 @@ ghost use Rattle.std.specs.Prelude.{◌≡◌};
 ghost use Rattle.std.specs.Fn.{FnReturnsAt};
 ghost use Rattle.deleter.specs.Weighing.{Weighs};
 
-use plain_state::PayloadKind;
 use std::marker::{Model, PhantomData};
 
 /// A closure that answers the weight of every payload of kind `W`. Contracts see it as that closure.
@@ -55,5 +54,4 @@ impl<W: PayloadKind, F: Fn(&[u64; 16]) -> u64> Deleter<W, F> {
     }
 }
 
-#[cfg(test)]
-mod tests;
+pub use plain_state::{Heap, Kind, PayloadKind, SlotId, SlotImage, ZERO, value};

@@ -1,29 +1,29 @@
 -- Trails that go on, steps of a call, and what several calls leave.
 use Rattle.std.proofs.Common.{◌≡◌, ℕ, ◌+◌, ◌≤◌, List, [], ◌∷◌, ◌++◌, refl, ap, sym, ◌∙◌, subst, arith, append_assoc}
 use Rattle.std.proofs.lemmas.List.{append-nil}
-use Rattle.plain_state.specs.declared.act.PlainAct.{PlainAct}
-use Rattle.plain_state.specs.declared.slot.SlotId.{SlotId}
-use Rattle.plain_state.specs.Lists.{times}
-use Rattle.plain_state.specs.State.{Plain}
-use Rattle.plain_protocol.specs.Owns.{OwnPart}
-use Rattle.core_events.specs.declared.act.Act.{Act}
-use Rattle.core_events.specs.declared.outcome.Outcome.{Outcome}
-use Rattle.core_events.specs.declared.view.CoreView.{CoreView}
-use Rattle.core_events.specs.declared.view.Move.{Move}
-use Rattle.core_events.specs.Runs.{after}
-use Rattle.core_events.specs.Shows.{shows}
-use Rattle.core_events.specs.Steps.{answer, moved}
-use Rattle.core_law.proofs.Trails.{changed_trail}
-use Rattle.acquire_retire.specs.Collecting.{WalksBy, move}
-use Rattle.core_events.specs.Views.{Holds, held_times}
-use Rattle.core_law.proofs.Kit.{times_none}
-use Rattle.control_word.specs.Moves.{KnowsStill}
+use Rattle.protected_loads.specs.plain_state.declared.act.PlainAct.{PlainAct}
+use Rattle.protected_loads.specs.plain_state.declared.slot.SlotId.{SlotId}
+use Rattle.protected_loads.specs.plain_state.Lists.{times}
+use Rattle.protected_loads.specs.plain_state.State.{Plain}
+use Rattle.protected_loads.specs.plain_protocol.Owns.{OwnPart}
+use Rattle.protected_loads.specs.core_events.declared.act.Act.{Act}
+use Rattle.protected_loads.specs.core_events.declared.outcome.Outcome.{Outcome}
+use Rattle.protected_loads.specs.core_events.declared.view.CoreView.{CoreView}
+use Rattle.protected_loads.specs.core_events.declared.view.Move.{Move}
+use Rattle.protected_loads.specs.core_events.Runs.{after}
+use Rattle.protected_loads.specs.core_events.Shows.{shows}
+use Rattle.protected_loads.specs.core_events.Steps.{answer, moved}
+use Rattle.protected_loads.proofs.Below.core_law.Trails.{changed_trail}
+use Rattle.protected_loads.specs.acquire_retire.Collecting.{WalksBy, move}
+use Rattle.protected_loads.specs.core_events.Views.{Holds, held_times}
+use Rattle.protected_loads.proofs.Below.core_law.Kit.{times_none}
+use Rattle.protected_loads.specs.control_word.Moves.{KnowsStill}
 use Rattle.protected_loads.proofs.Telling.{holds_has}
-use Rattle.domain_rule.specs.Told.{Happened}
-use Rattle.domain_rule.specs.Views.{object_in}
-use Rattle.acquire_retire.specs.Calls.{Steps}
-use Rattle.acquire_retire.specs.Domains.{DomainState}
-use Rattle.acquire_retire.specs.Seats.{SeatState}
+use Rattle.protected_loads.specs.domain_rule.Told.{Happened}
+use Rattle.protected_loads.specs.domain_rule.Views.{object_in}
+use Rattle.protected_loads.specs.acquire_retire.Calls.{Steps}
+use Rattle.protected_loads.specs.acquire_retire.Domains.{DomainState}
+use Rattle.protected_loads.specs.acquire_retire.Seats.{SeatState}
 use Rattle.directory_calls.specs.Steps.{AtSome, AtStep, GoesOn, Leaves, aside}
 
 -- TRAILS

@@ -1,18 +1,18 @@
 -- What a seat has learnt it knows later too.
 use Rattle.std.proofs.Common.{inl, inr, ⊎_elim, ℕ, ◌+◌, zero, suc, refl, ◌∙◌, sym, subst, arith}
 use Rattle.std.specs.Prelude.{List, Option, Some, None}
-use Rattle.plain_state.specs.declared.act.PlainAct.{PlainAct}
-use Rattle.plain_state.specs.declared.slot.SlotId.{SlotId}
-use Rattle.plain_protocol.specs.Owns.{Object, OwnPart}
-use Rattle.directory_law.specs.declared.view.Seen.{Seen}
-use Rattle.directory_law.specs.declared.view.View.{View}
-use Rattle.directory_law.specs.Payloads.{Text}
-use Rattle.directory_law.specs.declared.view.Rope.{Rope}
-use Rattle.directory_law.specs.Views.{In, note}
-use Rattle.directory_law.specs.Cells.{Area}
-use Rattle.directory_law.specs.Lessons.{see_next, sees}
-use Rattle.directory_law.specs.Steps.{id}
-use Rattle.directory_law.specs.Walks.{IsOther, Passes, Walked}
+use Rattle.protected_loads.specs.plain_state.declared.act.PlainAct.{PlainAct}
+use Rattle.protected_loads.specs.plain_state.declared.slot.SlotId.{SlotId}
+use Rattle.protected_loads.specs.plain_protocol.Owns.{Object, OwnPart}
+use Rattle.directory_protocol.specs.directory_law.declared.view.Seen.{Seen}
+use Rattle.directory_protocol.specs.directory_law.declared.view.View.{View}
+use Rattle.directory_protocol.specs.directory_law.Payloads.{Text}
+use Rattle.directory_protocol.specs.directory_law.declared.view.Rope.{Rope}
+use Rattle.directory_protocol.specs.directory_law.Views.{In, note}
+use Rattle.directory_protocol.specs.directory_law.Cells.{Area}
+use Rattle.directory_protocol.specs.directory_law.Lessons.{see_next, sees}
+use Rattle.directory_protocol.specs.directory_law.Steps.{id}
+use Rattle.directory_protocol.specs.directory_law.Walks.{IsOther, Passes, Walked}
 use Rattle.directory_protocol.specs.Keeping.{KeepsAll}
 use Rattle.directory_calls.specs.Learning.{Learns}
 

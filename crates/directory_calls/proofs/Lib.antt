@@ -1,3 +1,4 @@
+pub mod Below
 pub mod Going
 pub mod Learnt
 pub mod Parts

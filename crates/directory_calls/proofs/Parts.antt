@@ -1,12 +1,12 @@
 -- A directory as a part of a protocol: what its deeds ask of the whole, and what they do to a view.
 use Rattle.std.proofs.Common.{◌≡◌, ◌+◌, ℕ, ap, sym, subst, ◌∙◌, arith}
-use Rattle.plain_state.specs.declared.act.PlainAct.{PlainAct}
-use Rattle.plain_state.specs.State.{Plain}
-use Rattle.plain_protocol.specs.Acts.{Owned}
-use Rattle.plain_protocol.specs.Owns.{OwnPart}
-use Rattle.protocol_pairs.specs.Parts.{Accepts, Frees, PutsBack, PutsOver, Reads}
-use Rattle.protocol_pairs.specs.Spared.{IsWithin}
-use Rattle.directory_law.specs.declared.view.View.{View}
+use Rattle.protected_loads.specs.plain_state.declared.act.PlainAct.{PlainAct}
+use Rattle.protected_loads.specs.plain_state.State.{Plain}
+use Rattle.protected_loads.specs.plain_protocol.Acts.{Owned}
+use Rattle.protected_loads.specs.plain_protocol.Owns.{OwnPart}
+use Rattle.directory_protocol.specs.protocol_pairs.Parts.{Accepts, Frees, PutsBack, PutsOver, Reads}
+use Rattle.directory_protocol.specs.protocol_pairs.Spared.{IsWithin}
+use Rattle.directory_protocol.specs.directory_law.declared.view.View.{View}
 use Rattle.directory_protocol.specs.Keeping.{KeepsAll, MindsNone}
 use Rattle.directory_calls.specs.Learning.{Learns, LearnsIn}
 use Rattle.directory_calls.proofs.Learnt.{learns_none, learns_then}

@@ -1,14 +1,14 @@
 -- A directory over the weak cells of a domain.
 use Rattle.std.specs.Prelude.{Bool, ℕ, ◌≡◌, ◌<◌, ◌≤◌, ◌+◌, List}
-use Rattle.plain_state.specs.declared.slot.SlotId.{SlotId}
-use Rattle.plain_state.specs.State.{Plain}
-use Rattle.acquire_retire.specs.Domains.{DomainState}
-use Rattle.directory_law.specs.Payloads.{Text}
-use Rattle.directory_law.specs.Bytes.{IsTextOf}
-use Rattle.directory_law.specs.declared.view.View.{View}
-use Rattle.directory_law.specs.Cells.{Area, area}
-use Rattle.directory_law.specs.Law.{IsBound, NoneBound}
-use Rattle.directory_law.specs.Lessons.{spent}
+use Rattle.protected_loads.specs.plain_state.declared.slot.SlotId.{SlotId}
+use Rattle.protected_loads.specs.plain_state.State.{Plain}
+use Rattle.protected_loads.specs.acquire_retire.Domains.{DomainState}
+use Rattle.directory_protocol.specs.directory_law.Payloads.{Text}
+use Rattle.directory_protocol.specs.directory_law.Bytes.{IsTextOf}
+use Rattle.directory_protocol.specs.directory_law.declared.view.View.{View}
+use Rattle.directory_protocol.specs.directory_law.Cells.{Area, area}
+use Rattle.directory_protocol.specs.directory_law.Law.{IsBound, NoneBound}
+use Rattle.directory_protocol.specs.directory_law.Lessons.{spent}
 use Rattle.directory_protocol.specs.declared.law.DirectoryLaw.{DirectoryLaw}
 pub use Rattle.directory_calls.specs.declared.directory.Directory.{Directory}
 

@@ -1,11 +1,11 @@
 -- What a walk adds to the view of its seat.
 use Rattle.std.specs.Prelude.{ℕ, ◌≡◌, ◌+◌}
-use Rattle.directory_law.specs.declared.view.Note.{Note}
-use Rattle.directory_law.specs.declared.view.Seen.{Seen}
-use Rattle.directory_law.specs.declared.view.Ran.{Ran}
-use Rattle.directory_law.specs.declared.view.Led.{Led}
-use Rattle.directory_law.specs.declared.view.View.{View}
-use Rattle.directory_law.specs.Views.{In}
+use Rattle.directory_protocol.specs.directory_law.declared.view.Note.{Note}
+use Rattle.directory_protocol.specs.directory_law.declared.view.Seen.{Seen}
+use Rattle.directory_protocol.specs.directory_law.declared.view.Ran.{Ran}
+use Rattle.directory_protocol.specs.directory_law.declared.view.Led.{Led}
+use Rattle.directory_protocol.specs.directory_law.declared.view.View.{View}
+use Rattle.directory_protocol.specs.directory_law.Views.{In}
 
 -- The seat has learnt more, of cells, lives and texts, and has used n interns more. What it notes and keeps is as
 -- before.

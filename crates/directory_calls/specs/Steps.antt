@@ -1,19 +1,19 @@
 -- Something that was so at a step of a call, and what the call leaves of its seat.
 use Rattle.std.specs.Prelude.{ℕ, ◌≡◌, List, [], ◌∷◌, ◌++◌, Option, Some, None, Result, Ok, Err}
-use Rattle.plain_state.specs.declared.slot.SlotId.{SlotId}
-use Rattle.plain_state.specs.Lists.{times}
-use Rattle.plain_state.specs.State.{Plain}
-use Rattle.core_events.specs.declared.act.Act.{Act}
-use Rattle.core_events.specs.declared.view.CoreView.{CoreView}
-use Rattle.core_events.specs.declared.view.Move.{Move}
-use Rattle.core_events.specs.Steps.{moved}
-use Rattle.core_events.specs.Views.{Holds}
-use Rattle.counted_handles.specs.Handles.{Handle}
-use Rattle.domain_rule.specs.Told.{Happened}
-use Rattle.domain_rule.specs.Views.{object_in}
-use Rattle.acquire_retire.specs.Collecting.{rest_of}
-use Rattle.acquire_retire.specs.Domains.{DomainState}
-use Rattle.acquire_retire.specs.Seats.{SeatState}
+use Rattle.protected_loads.specs.plain_state.declared.slot.SlotId.{SlotId}
+use Rattle.protected_loads.specs.plain_state.Lists.{times}
+use Rattle.protected_loads.specs.plain_state.State.{Plain}
+use Rattle.protected_loads.specs.core_events.declared.act.Act.{Act}
+use Rattle.protected_loads.specs.core_events.declared.view.CoreView.{CoreView}
+use Rattle.protected_loads.specs.core_events.declared.view.Move.{Move}
+use Rattle.protected_loads.specs.core_events.Steps.{moved}
+use Rattle.protected_loads.specs.core_events.Views.{Holds}
+use Rattle.protected_loads.specs.counted_handles.Handles.{Handle}
+use Rattle.protected_loads.specs.domain_rule.Told.{Happened}
+use Rattle.protected_loads.specs.domain_rule.Views.{object_in}
+use Rattle.protected_loads.specs.acquire_retire.Collecting.{rest_of}
+use Rattle.protected_loads.specs.acquire_retire.Domains.{DomainState}
+use Rattle.protected_loads.specs.acquire_retire.Seats.{SeatState}
 
 -- the trail goes on by some moves
 abbrev pub GoesOn : CoreView → CoreView → Type 0

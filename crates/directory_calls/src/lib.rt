@@ -14,3 +14,7 @@
 mod directory;
 
 pub use directory::Directory;
+pub use directory_protocol::{
+    AnswerHead, BindHead, DirectoryLaw, DrawTicket, ForgetEnded, HasDirectory, LeadOn, LinkPart,
+    LookAtCell, MakeSlot, PairKind, RecordKind, SeeHead, UpgradeHead,
+};

@@ -3,7 +3,7 @@ use Rattle.std.proofs.Common.{◌≡◌, inl, inr, ⊎_elim, ℕ, zero, suc, ◌
 use Rattle.std.specs.Prelude.{◌%◌}
 use Rattle.std.proofs.lemmas.List.Sums.{sum_by-cons}
 use Rattle.std.proofs.lemmas.Bool.Decides.{nat_tests}
-use Rattle.plain_state.specs.State.{no_payload}
+use Rattle.plain_protocol.specs.plain_state.State.{no_payload}
 use Rattle.directory_law.specs.Payloads.{IsOwn, Text, size, IsRest, IsText}
 use Rattle.directory_law.specs.Places.{text_hash}
 use Rattle.directory_law.specs.Views.{Each}
@@ -15,7 +15,7 @@ use Rattle.std.specs.Prelude.{◌/◌, min, sum_by}
 use Rattle.std.proofs.lemmas.List.{ext_get_or, take-append-drop, drop-drop, length-take}
 use Rattle.std.proofs.lemmas.Grind.{get_or_after_one}
 use Rattle.std.proofs.lemmas.List.Elements.{All-take, All-drop, All-tail}
-use Rattle.plain_state.specs.Records.{word_of_bytes, eight_bytes}
+use Rattle.plain_protocol.specs.plain_state.Records.{word_of_bytes, eight_bytes}
 use Rattle.directory_law.specs.Places.{hash_on}
 use Rattle.directory_law.specs.Bytes.{AreBytes, Packs, ArePartsOf, IsTextOf, low_bytes, bytes_of_words, piece_bytes, piece_weight, part_bytes, text_bytes, IsHeadOf, IsPartOf, IsPiece}
 

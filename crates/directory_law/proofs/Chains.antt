@@ -4,13 +4,13 @@ use Rattle.std.specs.Prelude.{Option, Some, None}
 use Rattle.std.proofs.lemmas.List.{get_or_past}
 use Rattle.std.proofs.lemmas.List.Sums.{get_or-le-sum_by}
 use Rattle.std.proofs.lemmas.Bool.{cases_lt}
-use Rattle.plain_state.specs.declared.slot.PlainSlot.{PlainSlot}
-use Rattle.plain_state.specs.declared.slot.SlotId.{SlotId}
-use Rattle.plain_state.specs.declared.slot.Stage.TheVariants.{Free, Blank, Live}
-use Rattle.plain_state.specs.State.{Plain, new_slot, slot_at, stage_at}
-use Rattle.plain_state.specs.References.{held_in, over_slots, strong_fields, strong_refs}
-use Rattle.plain_state.specs.Lawful.{Lawful}
-use Rattle.plain_state.proofs.Kit.{held_self}
+use Rattle.plain_protocol.specs.plain_state.declared.slot.PlainSlot.{PlainSlot}
+use Rattle.plain_protocol.specs.plain_state.declared.slot.SlotId.{SlotId}
+use Rattle.plain_protocol.specs.plain_state.declared.slot.Stage.TheVariants.{Free, Blank, Live}
+use Rattle.plain_protocol.specs.plain_state.State.{Plain, new_slot, slot_at, stage_at}
+use Rattle.plain_protocol.specs.plain_state.References.{held_in, over_slots, strong_fields, strong_refs}
+use Rattle.plain_protocol.specs.plain_state.Lawful.{Lawful}
+use Rattle.plain_protocol.proofs.Below.plain_state.Kit.{held_self}
 use Rattle.directory_law.specs.Payloads.{Text, IsHead, IsPart, IsOwn, IsText}
 use Rattle.directory_law.specs.Views.{View}
 use Rattle.directory_law.specs.Chains.{Along, Begins, Reads, OwnSlot}

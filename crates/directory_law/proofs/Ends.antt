@@ -1,7 +1,7 @@
 -- Texts that are kept, and how far a text goes.
 use Rattle.std.proofs.Common.{◌≡◌, ℕ, ◌-◌, ◌≤◌, List, [], ◌∷◌, ◌++◌, refl, ap, subst, arith}
-use Rattle.plain_state.specs.declared.slot.SlotId.{SlotId}
-use Rattle.plain_state.specs.State.{Plain}
+use Rattle.plain_protocol.specs.plain_state.declared.slot.SlotId.{SlotId}
+use Rattle.plain_protocol.specs.plain_state.State.{Plain}
 use Rattle.directory_law.specs.Payloads.{Text, size, IsRest, IsText}
 use Rattle.directory_law.specs.Views.{View, KeptIn}
 use Rattle.directory_law.specs.Cells.{Area}

@@ -1,11 +1,11 @@
 -- The deeds that make a record follow one another.
 use Rattle.std.proofs.Common.{◌≡◌, ℕ, ◌+◌, ◌<◌, List, [], ◌∷◌, refl, ap, sym, ◌∙◌, arith}
 use Rattle.std.specs.Prelude.{Some, None}
-use Rattle.plain_state.specs.declared.act.EventPlace.TheVariants.{Field, WeakCell}
-use Rattle.plain_state.specs.declared.act.PlainAct.{PlainAct}
-use Rattle.plain_state.specs.declared.act.PlainAct.TheVariants as act
-use Rattle.plain_state.specs.declared.slot.SlotId.{SlotId}
-use Rattle.plain_state.specs.Lists.{times}
+use Rattle.plain_protocol.specs.plain_state.declared.act.EventPlace.TheVariants.{Field, WeakCell}
+use Rattle.plain_protocol.specs.plain_state.declared.act.PlainAct.{PlainAct}
+use Rattle.plain_protocol.specs.plain_state.declared.act.PlainAct.TheVariants as act
+use Rattle.plain_protocol.specs.plain_state.declared.slot.SlotId.{SlotId}
+use Rattle.plain_protocol.specs.plain_state.Lists.{times}
 use Rattle.plain_protocol.specs.Owns.{OwnPart}
 use Rattle.directory_law.specs.Payloads.{IsPart, IsText}
 use Rattle.directory_law.specs.Views.{Rope, View, rope, without}

@@ -2,9 +2,9 @@
 use Rattle.std.proofs.Common.{◌≡◌, ◌≢◌, ⊎_elim, ℕ, ◌+◌, ◌<◌, ◌≤◌, List, length, set, refl, ap, sym, ◌∙◌, subst, arith}
 use Rattle.std.proofs.lemmas.List.{length-set, get_or-set_same, get_or-set_other}
 use Rattle.std.proofs.lemmas.Bool.{cases_eq}
-use Rattle.plain_state.specs.declared.slot.SlotId.{SlotId}
-use Rattle.plain_state.specs.Lists.{cell_times}
-use Rattle.plain_state.specs.State.{Plain, PlainSeat, slot_at}
+use Rattle.plain_protocol.specs.plain_state.declared.slot.SlotId.{SlotId}
+use Rattle.plain_protocol.specs.plain_state.Lists.{cell_times}
+use Rattle.plain_protocol.specs.plain_state.State.{Plain, PlainSeat, slot_at}
 use Rattle.plain_protocol.specs.Laws.{KeptByLeave}
 use Rattle.directory_law.specs.Payloads.{Text}
 use Rattle.directory_law.specs.Views.{View, gone, view_at, rope, joined, times_of, total, fresh, keeps, KeptIn, In}

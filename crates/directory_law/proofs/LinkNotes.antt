@@ -2,10 +2,10 @@
 use Rattle.std.proofs.Common.{◌≡◌, ◌≢◌, ⊎_elim, ℕ, ◌+◌, ◌<◌, ◌≤◌, List, [], ◌∷◌, length, set, refl, ap, ◌∙◌, subst, arith}
 use Rattle.std.proofs.lemmas.List.{get_or_past}
 use Rattle.std.proofs.lemmas.Bool.{cases_lt}
-use Rattle.plain_state.specs.declared.slot.SlotId.{SlotId}
-use Rattle.plain_state.specs.declared.slot.Stage.TheVariants.{Live}
-use Rattle.plain_state.specs.State.{Plain, PlainSeat, slot_at, stage_at}
-use Rattle.plain_state.specs.Lawful.{Lawful}
+use Rattle.plain_protocol.specs.plain_state.declared.slot.SlotId.{SlotId}
+use Rattle.plain_protocol.specs.plain_state.declared.slot.Stage.TheVariants.{Live}
+use Rattle.plain_protocol.specs.plain_state.State.{Plain, PlainSeat, slot_at, stage_at}
+use Rattle.plain_protocol.specs.plain_state.Lawful.{Lawful}
 use Rattle.directory_law.specs.Payloads.{Text, IsPart, IsOwn}
 use Rattle.directory_law.specs.Views.{Rope, View, gone, view_at, rope, one_of, times_of, fresh, In, Each, without}
 use Rattle.directory_law.specs.Cells.{Area}

@@ -2,11 +2,11 @@
 use Rattle.std.proofs.Common.{◌≡◌, ◌≢◌, ⊎_elim, ℕ, ◌<◌, ◌≤◌, List, ◌∷◌, length, set, refl, ap, sym, ◌∙◌, subst, arith}
 use Rattle.std.specs.Prelude.{Option, Some}
 use Rattle.std.proofs.lemmas.List.{get_or-set_same, get_or-set_other}
-use Rattle.plain_state.specs.declared.slot.PlainSlot.{PlainSlot}
-use Rattle.plain_state.specs.declared.slot.SlotId.{SlotId}
-use Rattle.plain_state.specs.declared.slot.Stage.TheVariants.{Live}
-use Rattle.plain_state.specs.State.{Plain, PlainSeat, new_slot, slot_at, stage_at}
-use Rattle.plain_state.specs.Lawful.{Lawful}
+use Rattle.plain_protocol.specs.plain_state.declared.slot.PlainSlot.{PlainSlot}
+use Rattle.plain_protocol.specs.plain_state.declared.slot.SlotId.{SlotId}
+use Rattle.plain_protocol.specs.plain_state.declared.slot.Stage.TheVariants.{Live}
+use Rattle.plain_protocol.specs.plain_state.State.{Plain, PlainSeat, new_slot, slot_at, stage_at}
+use Rattle.plain_protocol.specs.plain_state.Lawful.{Lawful}
 use Rattle.plain_protocol.specs.Calm.{IsMade}
 use Rattle.directory_law.specs.Payloads.{Text, IsHead, IsPart, IsOwn}
 use Rattle.directory_law.specs.Views.{Rope, View, view_at, rope, total, fresh, keeps, KeptIn, Each}

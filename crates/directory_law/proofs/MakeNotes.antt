@@ -1,10 +1,10 @@
 -- The seat that makes a slot notes it.
 use Rattle.std.proofs.Common.{◌≡◌, ◌≢◌, ⊎_elim, ℕ, ◌+◌, ◌<◌, ◌≤◌, List, [], ◌∷◌, length, set, refl, sym, arith}
 use Rattle.std.proofs.lemmas.Bool.{cases_lt}
-use Rattle.plain_state.specs.declared.slot.SlotId.{SlotId}
-use Rattle.plain_state.specs.declared.slot.Stage.TheVariants.{Blank}
-use Rattle.plain_state.specs.State.{Plain, PlainSeat, slot_at, stage_at}
-use Rattle.plain_state.specs.Lawful.{Lawful}
+use Rattle.plain_protocol.specs.plain_state.declared.slot.SlotId.{SlotId}
+use Rattle.plain_protocol.specs.plain_state.declared.slot.Stage.TheVariants.{Blank}
+use Rattle.plain_protocol.specs.plain_state.State.{Plain, PlainSeat, slot_at, stage_at}
+use Rattle.plain_protocol.specs.plain_state.Lawful.{Lawful}
 use Rattle.directory_law.specs.Payloads.{IsOwn}
 use Rattle.directory_law.specs.Views.{Rope, View, view_at, rope, one_of, times_of, fresh}
 use Rattle.directory_law.specs.Cells.{Area}

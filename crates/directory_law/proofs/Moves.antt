@@ -1,10 +1,10 @@
 -- What a step owes the law whatever it does, and what then stays: cells, chains, and what seats have learnt.
 use Rattle.std.proofs.Common.{◌≡◌, ◌≢◌, ℕ, ◌+◌, ◌<◌, ◌≤◌, true, List, ◌∷◌, ◌++◌, refl, ap, sym, ◌∙◌, subst, arith}
 use Rattle.std.specs.Prelude.{Option, Some, None}
-use Rattle.plain_state.specs.declared.slot.SlotId.{SlotId}
-use Rattle.plain_state.specs.declared.slot.Stage.TheVariants.{Live}
-use Rattle.plain_state.specs.State.{Plain, slot_at, stage_at}
-use Rattle.plain_state.specs.Lawful.{Lawful}
+use Rattle.plain_protocol.specs.plain_state.declared.slot.SlotId.{SlotId}
+use Rattle.plain_protocol.specs.plain_state.declared.slot.Stage.TheVariants.{Live}
+use Rattle.plain_protocol.specs.plain_state.State.{Plain, slot_at, stage_at}
+use Rattle.plain_protocol.specs.plain_state.Lawful.{Lawful}
 use Rattle.plain_protocol.specs.Calm.{IsMade}
 use Rattle.directory_law.specs.Payloads.{Text, IsOwn}
 use Rattle.directory_law.specs.Views.{Note, Rope, Seen, Ran, Led, View, fresh, keeps, KeptIn, Each}

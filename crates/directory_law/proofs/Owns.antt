@@ -4,20 +4,20 @@ use Rattle.std.specs.Prelude.{if◌then◌else◌, Some, None}
 use Rattle.std.proofs.lemmas.List.{get_or_past}
 use Rattle.std.proofs.lemmas.Bool.{cases_lt}
 use Rattle.std.proofs.lemmas.Bool.Decides.{nat_tests}
-use Rattle.plain_state.specs.declared.slot.Kind.TheVariants.{Strong}
-use Rattle.plain_state.specs.declared.slot.PlainSlot.{PlainSlot}
-use Rattle.plain_state.specs.declared.slot.SlotId.{SlotId}
-use Rattle.plain_state.specs.declared.slot.Stage.TheVariants.{Free, Live}
-use Rattle.plain_state.specs.Lists.{times, entry_times}
-use Rattle.plain_state.specs.State.{Plain, PlainSeat, new_slot, seat_at, slot_at, stage_at}
-use Rattle.plain_state.specs.References.{places, deferrals, held_in, snapshot_times}
-use Rattle.plain_state.specs.Places.{held_times}
-use Rattle.plain_state.specs.Lawful.{Lawful}
-use Rattle.plain_state.proofs.Kit.{seats_at}
+use Rattle.plain_protocol.specs.plain_state.declared.slot.Kind.TheVariants.{Strong}
+use Rattle.plain_protocol.specs.plain_state.declared.slot.PlainSlot.{PlainSlot}
+use Rattle.plain_protocol.specs.plain_state.declared.slot.SlotId.{SlotId}
+use Rattle.plain_protocol.specs.plain_state.declared.slot.Stage.TheVariants.{Free, Live}
+use Rattle.plain_protocol.specs.plain_state.Lists.{times, entry_times}
+use Rattle.plain_protocol.specs.plain_state.State.{Plain, PlainSeat, new_slot, seat_at, slot_at, stage_at}
+use Rattle.plain_protocol.specs.plain_state.References.{places, deferrals, held_in, snapshot_times}
+use Rattle.plain_protocol.specs.plain_state.Places.{held_times}
+use Rattle.plain_protocol.specs.plain_state.Lawful.{Lawful}
+use Rattle.plain_protocol.proofs.Below.plain_state.Kit.{seats_at}
 use Rattle.plain_protocol.specs.Owns.{Object, object_of, own_part, has_slot, HasSlot}
 use Rattle.directory_law.proofs.Kept.{there}
 use Rattle.directory_law.specs.Steps.{life_of, payload_of, life_in, payload_in}
-use Rattle.plain_state.specs.Places.{HoldsStrongly, Holds}
+use Rattle.plain_protocol.specs.plain_state.Places.{HoldsStrongly, Holds}
 
 pub has_if : (v : PlainSeat) (s : SlotId)
     → 0 < held_times s v + times s v.dying + held_in s v.filling → HasSlot v s

@@ -3,14 +3,14 @@ use Rattle.std.proofs.Common.{◌≡◌, inl, ⊎_elim, ℕ, ◌+◌, ◌<◌, �
 use Rattle.std.specs.Prelude.{Option, Some, None}
 use Rattle.std.proofs.lemmas.List.{get_or_past}
 use Rattle.std.proofs.lemmas.Bool.{cases_lt}
-use Rattle.plain_state.specs.declared.slot.PlainSlot.{PlainSlot}
-use Rattle.plain_state.specs.declared.slot.SlotId.{SlotId}
-use Rattle.plain_state.specs.declared.slot.Stage.TheVariants.{Live}
-use Rattle.plain_state.specs.Lists.{cell_times}
-use Rattle.plain_state.specs.State.{Plain, slot_at}
-use Rattle.plain_state.specs.References.{held_in}
-use Rattle.plain_state.specs.Lawful.{Lawful}
-use Rattle.plain_state.proofs.Kit.{cells_at, held_self}
+use Rattle.plain_protocol.specs.plain_state.declared.slot.PlainSlot.{PlainSlot}
+use Rattle.plain_protocol.specs.plain_state.declared.slot.SlotId.{SlotId}
+use Rattle.plain_protocol.specs.plain_state.declared.slot.Stage.TheVariants.{Live}
+use Rattle.plain_protocol.specs.plain_state.Lists.{cell_times}
+use Rattle.plain_protocol.specs.plain_state.State.{Plain, slot_at}
+use Rattle.plain_protocol.specs.plain_state.References.{held_in}
+use Rattle.plain_protocol.specs.plain_state.Lawful.{Lawful}
+use Rattle.plain_protocol.proofs.Below.plain_state.Kit.{cells_at, held_self}
 use Rattle.plain_protocol.specs.Calm.{IsMade, StaysOrNull, IsCalmed}
 use Rattle.plain_protocol.specs.Laws.{KeptByCalm}
 use Rattle.plain_protocol.proofs.Calm.{calm_leaves}

@@ -6,11 +6,11 @@ use Rattle.std.proofs.lemmas.List.{get_or_past, get_or-replicate, length-replica
 use Rattle.std.proofs.lemmas.List.FromFn.{get_or-map-range_with_len, length-map-range_with_len}
 use Rattle.std.proofs.lemmas.List.Sums.{sum_by-cons}
 use Rattle.std.proofs.lemmas.Bool.{cases_lt}
-use Rattle.plain_state.specs.declared.slot.PlainSlot.{PlainSlot}
-use Rattle.plain_state.specs.declared.slot.SlotId.{SlotId}
-use Rattle.plain_state.specs.declared.slot.Stage.TheVariants.{Free, Live}
-use Rattle.plain_state.specs.State.{Plain, empty, stage_at}
-use Rattle.plain_state.proofs.Start.{every_slot_new}
+use Rattle.plain_protocol.specs.plain_state.declared.slot.PlainSlot.{PlainSlot}
+use Rattle.plain_protocol.specs.plain_state.declared.slot.SlotId.{SlotId}
+use Rattle.plain_protocol.specs.plain_state.declared.slot.Stage.TheVariants.{Free, Live}
+use Rattle.plain_protocol.specs.plain_state.State.{Plain, empty, stage_at}
+use Rattle.plain_protocol.proofs.Below.plain_state.Start.{every_slot_new}
 use Rattle.plain_protocol.specs.Laws.{Starts}
 use Rattle.directory_law.specs.Views.{View, gone, view_at, times_of, total, fresh, keeps}
 use Rattle.directory_law.specs.Chains.{OwnSlot}

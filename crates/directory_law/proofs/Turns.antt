@@ -2,8 +2,8 @@
 use Rattle.std.proofs.Common.{◌≡◌, ℕ, ◌+◌, ◌<◌, ◌≤◌, List, ◌++◌, length, set, sum, ap, sym, ◌∙◌, subst, arith}
 use Rattle.std.specs.Prelude.{Some}
 use Rattle.std.proofs.lemmas.List.{set-get_or}
-use Rattle.plain_state.specs.declared.slot.SlotId.{SlotId}
-use Rattle.plain_state.specs.State.{Plain, slot_at}
+use Rattle.plain_protocol.specs.plain_state.declared.slot.SlotId.{SlotId}
+use Rattle.plain_protocol.specs.plain_state.State.{Plain, slot_at}
 use Rattle.directory_law.specs.Payloads.{Text}
 use Rattle.directory_law.specs.Views.{Ran, Led, View, gone, view_at, times_of, total, fresh, keeps, KeptIn, In}
 use Rattle.directory_law.specs.Cells.{Area, cell, on, SetCell, LiveRecord}

@@ -3,8 +3,8 @@ use Rattle.std.proofs.Common.{◌≡◌, ◌≢◌, ◌⊎◌, inl, inr, ⊎_eli
 use Rattle.std.specs.Prelude.{◌%◌, Some, None}
 use Rattle.std.proofs.lemmas.Bool.{cases_eq, cases_lt}
 use Rattle.std.proofs.Math.Nat.{mod-lt, mod-add-mod, add-mod_right, mod-eq_of_lt}
-use Rattle.plain_state.specs.declared.slot.SlotId.{SlotId}
-use Rattle.plain_state.specs.State.{Plain, slot_at}
+use Rattle.plain_protocol.specs.plain_state.declared.slot.SlotId.{SlotId}
+use Rattle.plain_protocol.specs.plain_state.State.{Plain, slot_at}
 use Rattle.directory_law.specs.Payloads.{Text}
 use Rattle.directory_law.specs.Places.{text_hash}
 use Rattle.directory_law.specs.Views.{Seen, Ran, View, note, KeptIn, In}

@@ -1,7 +1,7 @@
 -- Texts of bytes, and the payloads of their slots.
 use Rattle.std.specs.Prelude.{◌≡◌, ◌⊎◌, ℕ, zero, suc, ◌+◌, ◌-◌, ◌%◌, ◌/◌, ◌<◌, ◌≤◌, min, nat_lt, List, [], ◌∷◌, ◌++◌, All, length, take, drop, slice_index, if◌then◌else◌}
-use Rattle.plain_state.specs.Limits.{words_of_payload}
-use Rattle.plain_state.specs.Records.{word_of_bytes, eight_bytes}
+use Rattle.plain_protocol.specs.plain_state.Limits.{words_of_payload}
+use Rattle.plain_protocol.specs.plain_state.Records.{word_of_bytes, eight_bytes}
 use Rattle.directory_law.specs.Payloads.{Text, size, IsHead}
 
 abbrev pub AreBytes : List ℕ → Type 0

@@ -1,10 +1,10 @@
 -- The cells of a directory, the walk of a text over them, and when a set cell is well.
 use Rattle.std.specs.Prelude.{◌≡◌, ◌≢◌, ℕ, zero, suc, ◌+◌, ◌%◌, ◌<◌, false, List, [], Option, Some, None}
-use Rattle.plain_state.specs.declared.act.EventPlace.TheVariants.{WeakCell}
-use Rattle.plain_state.specs.declared.slot.SlotId.{SlotId}
-use Rattle.plain_state.specs.declared.slot.Stage.TheVariants.{Live}
-use Rattle.plain_state.specs.State.{Plain, slot_at, stage_at}
-use Rattle.plain_state.specs.Places.{content}
+use Rattle.plain_protocol.specs.plain_state.declared.act.EventPlace.TheVariants.{WeakCell}
+use Rattle.plain_protocol.specs.plain_state.declared.slot.SlotId.{SlotId}
+use Rattle.plain_protocol.specs.plain_state.declared.slot.Stage.TheVariants.{Live}
+use Rattle.plain_protocol.specs.plain_state.State.{Plain, slot_at, stage_at}
+use Rattle.plain_protocol.specs.plain_state.Places.{content}
 use Rattle.plain_protocol.specs.Calm.{IsMade}
 use Rattle.directory_law.specs.declared.view.GivenTo.{GivenTo}
 use Rattle.directory_law.specs.declared.view.GivenTo.TheVariants.{Seats, Tickets}

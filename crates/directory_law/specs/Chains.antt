@@ -1,7 +1,7 @@
 -- The chains of slots that texts are read from.
 use Rattle.std.specs.Prelude.{◌≡◌, [], ◌∷◌, Option, Some, None}
-use Rattle.plain_state.specs.declared.slot.SlotId.{SlotId}
-use Rattle.plain_state.specs.State.{Plain, slot_at, stage_at}
+use Rattle.plain_protocol.specs.plain_state.declared.slot.SlotId.{SlotId}
+use Rattle.plain_protocol.specs.plain_state.State.{Plain, slot_at, stage_at}
 use Rattle.plain_protocol.specs.Calm.{IsMade}
 use Rattle.directory_law.specs.Payloads.{Text, IsOwn, IsPart}
 

@@ -1,9 +1,9 @@
 -- The law of a directory.
 use Rattle.std.specs.Prelude.{◌≡◌, ℕ, ◌+◌, ◌<◌, ◌≤◌, true, false, List, take, sum, Some, None}
-use Rattle.plain_state.specs.declared.slot.SlotId.{SlotId}
-use Rattle.plain_state.specs.declared.slot.PlainSlot.{PlainSlot}
-use Rattle.plain_state.specs.declared.slot.Stage.TheVariants.{Live}
-use Rattle.plain_state.specs.State.{Plain, slot_at, stage_at}
+use Rattle.plain_protocol.specs.plain_state.declared.slot.SlotId.{SlotId}
+use Rattle.plain_protocol.specs.plain_state.declared.slot.PlainSlot.{PlainSlot}
+use Rattle.plain_protocol.specs.plain_state.declared.slot.Stage.TheVariants.{Live}
+use Rattle.plain_protocol.specs.plain_state.State.{Plain, slot_at, stage_at}
 use Rattle.directory_law.specs.Payloads.{Text}
 use Rattle.directory_law.specs.Views.{View, view_at, total, fresh, keeps, KeptIn}
 use Rattle.directory_law.specs.Chains.{Along, Reads, OwnSlot}

@@ -1,8 +1,8 @@
 -- What seats have learnt, which stays true for ever.
 use Rattle.std.specs.Prelude.{◌≡◌, ℕ, ◌<◌, ◌≤◌, true, List, ◌++◌, Some}
-use Rattle.plain_state.specs.declared.slot.SlotId.{SlotId}
-use Rattle.plain_state.specs.declared.slot.Stage.TheVariants.{Live}
-use Rattle.plain_state.specs.State.{Plain, slot_at, stage_at}
+use Rattle.plain_protocol.specs.plain_state.declared.slot.SlotId.{SlotId}
+use Rattle.plain_protocol.specs.plain_state.declared.slot.Stage.TheVariants.{Live}
+use Rattle.plain_protocol.specs.plain_state.State.{Plain, slot_at, stage_at}
 use Rattle.directory_law.specs.Payloads.{Text, IsOwn}
 use Rattle.directory_law.specs.Views.{Note, Rope, Seen, Ran, Led, View, Each, KeptIn, fresh}
 use Rattle.directory_law.specs.Chains.{Along, Reads}

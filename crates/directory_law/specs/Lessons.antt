@@ -1,12 +1,12 @@
 -- The deeds by which a seat learns: each is a step that changes nothing which the law reads.
 use Rattle.std.specs.Prelude.{◌≡◌, ℕ, zero, suc, ◌+◌, ◌-◌, ◌<◌, ◌≤◌, Bool, true, false, ◌==◌, List, [], ◌∷◌, ◌++◌, if◌then◌else◌, slice_index_or, Option, Some, None}
-use Rattle.plain_state.specs.declared.act.EventPlace.TheVariants.{Field, WeakCell}
-use Rattle.plain_state.specs.declared.act.PlainAct.{PlainAct}
-use Rattle.plain_state.specs.declared.act.PlainAct.TheVariants as act
-use Rattle.plain_state.specs.declared.slot.SlotId.{SlotId}
-use Rattle.plain_state.specs.Lists.{times}
-use Rattle.plain_state.specs.State.{Plain, slot_at}
-use Rattle.plain_state.specs.Places.{HoldsStrongly}
+use Rattle.plain_protocol.specs.plain_state.declared.act.EventPlace.TheVariants.{Field, WeakCell}
+use Rattle.plain_protocol.specs.plain_state.declared.act.PlainAct.{PlainAct}
+use Rattle.plain_protocol.specs.plain_state.declared.act.PlainAct.TheVariants as act
+use Rattle.plain_protocol.specs.plain_state.declared.slot.SlotId.{SlotId}
+use Rattle.plain_protocol.specs.plain_state.Lists.{times}
+use Rattle.plain_protocol.specs.plain_state.State.{Plain, slot_at}
+use Rattle.plain_protocol.specs.plain_state.Places.{HoldsStrongly}
 use Rattle.plain_protocol.specs.Acts.{IsCalm}
 use Rattle.plain_protocol.specs.Owns.{Object, OwnPart}
 use Rattle.directory_law.specs.Payloads.{Text, IsHead, IsText}

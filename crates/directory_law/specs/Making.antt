@@ -1,12 +1,12 @@
 -- The deeds that make a record: its slots are made, the last part first; each leads to the one that was made before
 -- it; the head goes into a cell.
 use Rattle.std.specs.Prelude.{◌≡◌, ◌≢◌, ◌⊎◌, ℕ, ◌+◌, ◌<◌, ◌==◌, List, [], ◌∷◌, ◌++◌, if◌then◌else◌, Some, None}
-use Rattle.plain_state.specs.declared.act.EventPlace.TheVariants.{Field, WeakCell}
-use Rattle.plain_state.specs.declared.act.PlainAct.{PlainAct}
-use Rattle.plain_state.specs.declared.act.PlainAct.TheVariants as act
-use Rattle.plain_state.specs.declared.slot.SlotId.{SlotId}
-use Rattle.plain_state.specs.Lists.{times}
-use Rattle.plain_state.specs.State.{Plain, slot_at}
+use Rattle.plain_protocol.specs.plain_state.declared.act.EventPlace.TheVariants.{Field, WeakCell}
+use Rattle.plain_protocol.specs.plain_state.declared.act.PlainAct.{PlainAct}
+use Rattle.plain_protocol.specs.plain_state.declared.act.PlainAct.TheVariants as act
+use Rattle.plain_protocol.specs.plain_state.declared.slot.SlotId.{SlotId}
+use Rattle.plain_protocol.specs.plain_state.Lists.{times}
+use Rattle.plain_protocol.specs.plain_state.State.{Plain, slot_at}
 use Rattle.plain_protocol.specs.Owns.{OwnPart}
 use Rattle.directory_law.specs.Payloads.{Text, IsPart, IsOwn, IsText}
 use Rattle.directory_law.specs.Views.{Rope, View, rope, without}

@@ -1,8 +1,8 @@
 -- What a directory promises, read off the plain state and the views.
 use Rattle.std.specs.Prelude.{◌≡◌, ℕ, zero, suc, ◌+◌, ◌<◌, ◌≤◌, List, [], ◌∷◌, sum, Some, None}
-use Rattle.plain_state.specs.declared.slot.SlotId.{SlotId}
-use Rattle.plain_state.specs.declared.slot.Stage.TheVariants.{Live}
-use Rattle.plain_state.specs.State.{Plain, slot_at, stage_at}
+use Rattle.plain_protocol.specs.plain_state.declared.slot.SlotId.{SlotId}
+use Rattle.plain_protocol.specs.plain_state.declared.slot.Stage.TheVariants.{Live}
+use Rattle.plain_protocol.specs.plain_state.State.{Plain, slot_at, stage_at}
 use Rattle.plain_protocol.specs.Calm.{IsMade}
 use Rattle.directory_law.specs.Payloads.{Text, size, IsHead, IsPart}
 use Rattle.directory_law.specs.Views.{Ran, View, total, keeps, KeptIn}

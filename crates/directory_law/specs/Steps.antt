@@ -1,11 +1,11 @@
 -- What deeds read of a seat's own part and of its step.
 use Rattle.std.specs.Prelude.{◌≡◌, ◌⊎◌, ◌<◌, ℕ, zero, suc, List, [], Option, Some, None}
-use Rattle.plain_state.specs.declared.act.EventPlace.{EventPlace}
-use Rattle.plain_state.specs.declared.act.EventPlace.TheVariants.{WeakCell}
-use Rattle.plain_state.specs.declared.act.PlainAct.{PlainAct}
-use Rattle.plain_state.specs.declared.act.PlainAct.TheVariants as act
-use Rattle.plain_state.specs.declared.slot.SlotId.{SlotId}
-use Rattle.plain_state.specs.State.{Plain}
+use Rattle.plain_protocol.specs.plain_state.declared.act.EventPlace.{EventPlace}
+use Rattle.plain_protocol.specs.plain_state.declared.act.EventPlace.TheVariants.{WeakCell}
+use Rattle.plain_protocol.specs.plain_state.declared.act.PlainAct.{PlainAct}
+use Rattle.plain_protocol.specs.plain_state.declared.act.PlainAct.TheVariants as act
+use Rattle.plain_protocol.specs.plain_state.declared.slot.SlotId.{SlotId}
+use Rattle.plain_protocol.specs.plain_state.State.{Plain}
 use Rattle.plain_protocol.specs.Owns.{Object, OwnPart}
 use Rattle.directory_law.specs.Cells.{Area, cell}
 

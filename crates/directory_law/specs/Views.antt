@@ -1,8 +1,8 @@
 -- The views of seats: with what a seat begins, what becomes of a view where a seat leaves, and how often something is
 -- noted or kept.
 use Rattle.std.specs.Prelude.{◌≡◌, ◌⊎◌, ℕ, ◌+◌, Bool, ◌==◌, ◌&&◌, List, [], ◌∷◌, ◌++◌, slice_index_or, sum_by, if◌then◌else◌}
-use Rattle.plain_state.specs.declared.slot.SlotId.{SlotId}
-use Rattle.plain_state.specs.Lists.{is_slot}
+use Rattle.plain_protocol.specs.plain_state.declared.slot.SlotId.{SlotId}
+use Rattle.plain_protocol.specs.plain_state.Lists.{is_slot}
 use Rattle.directory_law.specs.Payloads.{Text}
 pub use Rattle.directory_law.specs.declared.view.Note.{Note}
 pub use Rattle.directory_law.specs.declared.view.Rope.{Rope}

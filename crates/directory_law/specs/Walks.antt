@@ -1,6 +1,6 @@
 -- How far a seat knows that it walked: the cells that a text passes.
 use Rattle.std.specs.Prelude.{◌≡◌, ◌≢◌, ◌⊎◌, ℕ, ◌<◌, ◌≤◌, List, ◌∷◌, ◌++◌, None}
-use Rattle.plain_state.specs.State.{Plain}
+use Rattle.plain_protocol.specs.plain_state.State.{Plain}
 use Rattle.directory_law.specs.Payloads.{Text}
 use Rattle.directory_law.specs.Views.{Seen, Ran, View, In, note}
 use Rattle.directory_law.specs.Cells.{Area, cell, on}

@@ -1,13 +1,13 @@
 //! What the law gives a caller.
 ghost use Rattle.std.specs.Prelude.{◌≡◌, ◌+◌, ◌<◌, ◌≤◌, ℕ, List, [], ◌∷◌, Some, None, length, slice_set, sum};
-ghost use Rattle.plain_state.specs.declared.act.EventPlace.TheVariants.{Field, WeakCell};
-ghost use Rattle.plain_state.specs.declared.act.PlainAct.{PlainAct};
-ghost use Rattle.plain_state.specs.declared.act.PlainAct.TheVariants as act;
-ghost use Rattle.plain_state.specs.declared.slot.SlotId.{SlotId};
-ghost use Rattle.plain_state.specs.declared.slot.Stage.TheVariants.{Live};
-ghost use Rattle.plain_state.specs.State.{Plain, slot_at, stage_at};
-ghost use Rattle.plain_state.specs.Lists.{times};
-ghost use Rattle.plain_state.specs.Lawful.{Lawful};
+ghost use Rattle.plain_protocol.specs.plain_state.declared.act.EventPlace.TheVariants.{Field, WeakCell};
+ghost use Rattle.plain_protocol.specs.plain_state.declared.act.PlainAct.{PlainAct};
+ghost use Rattle.plain_protocol.specs.plain_state.declared.act.PlainAct.TheVariants as act;
+ghost use Rattle.plain_protocol.specs.plain_state.declared.slot.SlotId.{SlotId};
+ghost use Rattle.plain_protocol.specs.plain_state.declared.slot.Stage.TheVariants.{Live};
+ghost use Rattle.plain_protocol.specs.plain_state.State.{Plain, slot_at, stage_at};
+ghost use Rattle.plain_protocol.specs.plain_state.Lists.{times};
+ghost use Rattle.plain_protocol.specs.plain_state.Lawful.{Lawful};
 ghost use Rattle.plain_protocol.specs.Owns.{OwnPart};
 ghost use Rattle.directory_law.specs.Payloads.{Text, IsPart, IsText};
 ghost use Rattle.directory_law.specs.Views.{Rope, view_at, keeps, KeptIn};

@@ -1,6 +1,6 @@
 //! Texts of bytes, and the payloads of their slots.
 ghost use Rattle.std.specs.Prelude.{◌≡◌, ◌≤◌, ℕ, List, [], ◌∷◌, ◌++◌, length, sum_by};
-ghost use Rattle.plain_state.specs.State.{no_payload};
+ghost use Rattle.plain_protocol.specs.plain_state.State.{no_payload};
 ghost use Rattle.directory_law.specs.Payloads.{Text, IsOwn, IsText, size};
 ghost use Rattle.directory_law.specs.Bytes.{AreBytes, IsTextOf, IsPiece, text_bytes, piece_weight};
 ghost use Rattle.directory_law.specs.Places.{hash_on, text_hash};

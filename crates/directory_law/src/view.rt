@@ -1,5 +1,5 @@
 //! What a seat knows of a directory, and what it did. No value of these types is made: contracts alone see them.
-use plain_state::SlotId;
+use plain_protocol::SlotId;
 use std::collections::LinkedList;
 
 /// What the numbers of a directory's interns are given to.

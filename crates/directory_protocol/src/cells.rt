@@ -5,7 +5,7 @@ ghost use Rattle.directory_law.proofs.Bytes.{area_fits};
 ghost use Rattle.directory_law.proofs.Looks.{look_keeps, see_keeps};
 
 use crate::law::DirectoryLaw;
-use plain_protocol::Deed;
+use protocol_pairs::Deed;
 
 /// A weak cell, whichever. Where the walk of a text ends here, the text has no live record. The walk of a seat that
 /// has an intern left doesn't come around.

@@ -2,8 +2,7 @@
 ghost use Rattle.directory_protocol.specs.Keeping.{MindsNone};
 
 use crate::law::DirectoryLaw;
-use plain_protocol::Protocol;
-use protocol_pairs::{Pair, Part, Right, Whole};
+use protocol_pairs::{Pair, Part, Protocol, Right, Whole};
 
 /// A protocol that has a directory as its part `S`, or is one. Its rest may mind that a text is kept no more, and
 /// nothing else of the directory's views.

@@ -14,7 +14,7 @@ ghost use Rattle.directory_law.proofs.Bytes.{area_sum};
 
 use crate::record_kind::RecordKind;
 use directory_law::{GivenTo, View};
-use plain_protocol::Protocol;
+use protocol_pairs::Protocol;
 
 /// The law of one directory over a range of weak cells, with a number of interns for each seat or each ticket.
 #[derive(Debug, Drop)]

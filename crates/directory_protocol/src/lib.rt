@@ -20,13 +20,12 @@ mod making;
 mod notes;
 mod reading;
 mod record_kind;
-#[cfg(test)]
-mod tests;
 
 pub use cells::{LookAtCell, SeeHead};
 pub use has_directory::HasDirectory;
 pub use law::DirectoryLaw;
 pub use making::{BindHead, LinkPart, MakeSlot};
 pub use notes::{DrawTicket, ForgetEnded};
+pub use protocol_pairs::PairKind;
 pub use reading::{AnswerHead, LeadOn, ReadOn, UpgradeHead};
 pub use record_kind::RecordKind;

@@ -4,7 +4,7 @@ ghost use Rattle.directory_law.specs.Making.{BindReady, BindTells, LinkReady, Li
 ghost use Rattle.directory_law.proofs.MakingDeeds.{bind_keeps, link_keeps, make_keeps};
 
 use crate::law::DirectoryLaw;
-use plain_protocol::Deed;
+use protocol_pairs::Deed;
 
 /// The slot that the seat is filling becomes a head or a part, which stands nowhere and is noted. The last part comes
 /// first.

@@ -4,7 +4,7 @@ ghost use Rattle.directory_law.specs.Lessons.{DrawReady, DrawTells, ForgetReady,
 ghost use Rattle.directory_law.proofs.Answers.{draw_keeps, forget_keeps};
 
 use crate::law::DirectoryLaw;
-use plain_protocol::Deed;
+use protocol_pairs::Deed;
 
 /// From a calm step on, slots whose lives the seat has seen to have ended are noted no more.
 #[derive(Clone, Copy, Drop)]

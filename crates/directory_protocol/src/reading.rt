@@ -6,7 +6,7 @@ ghost use Rattle.directory_law.proofs.ReadingOn.{lead_keeps, read_keeps};
 ghost use Rattle.directory_law.proofs.Answers.{answer_keeps};
 
 use crate::law::DirectoryLaw;
-use plain_protocol::Deed;
+use protocol_pairs::Deed;
 
 /// An add to a head that was seen in a cell. Where it counts, the head is a live record, and its payload is read;
 /// else its life is noted as ended.

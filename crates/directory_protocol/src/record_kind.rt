@@ -2,7 +2,7 @@
 ghost use Rattle.directory_law.specs.Bytes.{IsPiece, piece_weight};
 ghost use Rattle.directory_law.proofs.Bytes.{piece_bounded};
 
-use plain_state::PayloadKind;
+use protocol_pairs::PayloadKind;
 
 /// Heads and parts of texts of 1 to 4,096 bytes.
 ///

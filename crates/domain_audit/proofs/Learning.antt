@@ -2,43 +2,43 @@
 use Rattle.std.proofs.Common.{◌≡◌, ℕ, ◌+◌, ◌<◌, List, [], ◌∷◌, ◌++◌, length, refl, ap, sym, ◌∙◌, subst, arith}
 use Rattle.std.specs.Prelude.{IsSome, Some}
 use Rattle.std.specs.Option.{option_map}
-use Rattle.plain_state.specs.declared.act.PlainAct.{PlainAct}
-use Rattle.plain_state.specs.declared.slot.Kind.TheVariants.{Strong}
-use Rattle.plain_state.specs.declared.slot.SlotId.{SlotId}
-use Rattle.plain_state.specs.Fits.{AllFit}
-use Rattle.plain_state.specs.Lists.{Entry}
-use Rattle.plain_state.specs.State.{Plain}
-use Rattle.plain_state.specs.Steps.{Row}
-use Rattle.plain_protocol.specs.Owns.{HasSlot, OwnPart}
-use Rattle.core_events.specs.declared.act.Act.{Act}
-use Rattle.core_events.specs.declared.act.Act.TheVariants as act
-use Rattle.core_events.specs.declared.outcome.Outcome.{Outcome}
-use Rattle.core_events.specs.declared.outcome.Outcome.TheVariants as outcome
-use Rattle.core_events.specs.declared.shape.Shape.{Shape}
-use Rattle.core_events.specs.declared.view.CoreView.{CoreView}
-use Rattle.core_events.specs.declared.view.Move.{Move}
-use Rattle.core_events.specs.declared.view.Note.{Note}
-use Rattle.core_events.specs.declared.view.Note.TheVariants as note
-use Rattle.core_events.specs.Runs.{Core, after, view_at}
-use Rattle.core_events.specs.Shows.{show_seat, shows}
-use Rattle.core_events.specs.ShownSteps.{releases}
-use Rattle.core_events.specs.Steps.{May, with_note}
-use Rattle.core_events.specs.Views.{note_of}
-use Rattle.core_law.specs.Sound.{Sound}
-use Rattle.core_law.proofs.Events.{event_shows}
-use Rattle.domain_rule.specs.declared.view.SeatView.{SeatView}
-use Rattle.domain_rule.specs.declared.view.Whole.{Whole}
-use Rattle.domain_rule.specs.Rule.{OthersLeft}
-use Rattle.domain_rule.specs.Views.{IsAlone, core_in, own_of}
-use Rattle.acquire_retire.specs.Calls.{IsSameView, Steps, same_view}
-use Rattle.acquire_retire.specs.Collecting.{move}
-use Rattle.acquire_retire.specs.Domains.{DomainState}
-use Rattle.acquire_retire.specs.Seats.{SeatState}
-use Rattle.acquire_retire.specs.Wholes.{core_known, known_core}
-use Rattle.control_word.specs.Moves.{KnowsStill}
-use Rattle.control_word.specs.Resting.{IsAtRest}
-use Rattle.control_word.proofs.Becoming.{Comes, bare, comes_more, comes_one, rest_after}
-use Rattle.control_word.proofs.Finding.{sound_before}
+use Rattle.plain_audit.specs.plain_state.declared.act.PlainAct.{PlainAct}
+use Rattle.plain_audit.specs.plain_state.declared.slot.Kind.TheVariants.{Strong}
+use Rattle.plain_audit.specs.plain_state.declared.slot.SlotId.{SlotId}
+use Rattle.plain_audit.specs.plain_state.Fits.{AllFit}
+use Rattle.plain_audit.specs.plain_state.Lists.{Entry}
+use Rattle.plain_audit.specs.plain_state.State.{Plain}
+use Rattle.plain_audit.specs.plain_state.Steps.{Row}
+use Rattle.plain_audit.specs.plain_protocol.Owns.{HasSlot, OwnPart}
+use Rattle.protected_loads.specs.core_events.declared.act.Act.{Act}
+use Rattle.protected_loads.specs.core_events.declared.act.Act.TheVariants as act
+use Rattle.protected_loads.specs.core_events.declared.outcome.Outcome.{Outcome}
+use Rattle.protected_loads.specs.core_events.declared.outcome.Outcome.TheVariants as outcome
+use Rattle.protected_loads.specs.core_events.declared.shape.Shape.{Shape}
+use Rattle.protected_loads.specs.core_events.declared.view.CoreView.{CoreView}
+use Rattle.protected_loads.specs.core_events.declared.view.Move.{Move}
+use Rattle.protected_loads.specs.core_events.declared.view.Note.{Note}
+use Rattle.protected_loads.specs.core_events.declared.view.Note.TheVariants as note
+use Rattle.protected_loads.specs.core_events.Runs.{Core, after, view_at}
+use Rattle.protected_loads.specs.core_events.Shows.{show_seat, shows}
+use Rattle.protected_loads.specs.core_events.ShownSteps.{releases}
+use Rattle.protected_loads.specs.core_events.Steps.{May, with_note}
+use Rattle.protected_loads.specs.core_events.Views.{note_of}
+use Rattle.protected_loads.specs.core_law.Sound.{Sound}
+use Rattle.protected_loads.proofs.Below.core_law.Events.{event_shows}
+use Rattle.protected_loads.specs.domain_rule.declared.view.SeatView.{SeatView}
+use Rattle.protected_loads.specs.domain_rule.declared.view.Whole.{Whole}
+use Rattle.protected_loads.specs.domain_rule.Rule.{OthersLeft}
+use Rattle.protected_loads.specs.domain_rule.Views.{IsAlone, core_in, own_of}
+use Rattle.protected_loads.specs.acquire_retire.Calls.{IsSameView, Steps, same_view}
+use Rattle.protected_loads.specs.acquire_retire.Collecting.{move}
+use Rattle.protected_loads.specs.acquire_retire.Domains.{DomainState}
+use Rattle.protected_loads.specs.acquire_retire.Seats.{SeatState}
+use Rattle.protected_loads.specs.acquire_retire.Wholes.{core_known, known_core}
+use Rattle.protected_loads.specs.control_word.Moves.{KnowsStill}
+use Rattle.protected_loads.specs.control_word.Resting.{IsAtRest}
+use Rattle.protected_loads.proofs.Below.control_word.Becoming.{Comes, bare, comes_more, comes_one, rest_after}
+use Rattle.protected_loads.proofs.Below.control_word.Finding.{sound_before}
 use Rattle.protected_loads.proofs.Noting.{announced_not_valid, announced_same, release_keeps, second_stays, written, written_back}
 use Rattle.protected_loads.proofs.Telling.{four_notes}
 use Rattle.slot_store.proofs.Objects.{known_after, known_before, known_still, some_value, sound_later}

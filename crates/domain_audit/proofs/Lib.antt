@@ -1,5 +1,5 @@
+pub mod Below
 pub mod OneSeat
 pub mod Showing
 pub mod Learning
 pub mod Wholes
-pub mod Trials

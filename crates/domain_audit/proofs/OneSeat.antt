@@ -4,25 +4,25 @@
 use Rattle.std.proofs.Common.{◌≡◌, ◌≢◌, ⊎_elim, inl, inr, ℕ, zero, suc, ◌+◌, ◌^◌, ◌<◌, ◌≤◌, false, List, [], ◌∷◌, length, get_or, refl, ap, sym, ◌∙◌, subst, arith}
 use Rattle.std.specs.Prelude.{None, Result, IfOk, Ok, Err}
 use Rattle.std.proofs.lemmas.List.Sums.{sum_by-cons}
-use Rattle.plain_state.specs.Limits.{most_slots}
-use Rattle.plain_state.specs.declared.image.Heap.{Heap}
-use Rattle.plain_state.specs.declared.slot.Kind.{Kind}
-use Rattle.plain_state.specs.declared.slot.Kind.TheVariants.{Strong, Weak, Disposal}
-use Rattle.plain_state.specs.declared.slot.SlotId.{SlotId}
-use Rattle.plain_state.specs.declared.slot.Stage.TheVariants.{Live, Ended, Husk}
-use Rattle.plain_state.specs.Fits.{AllFit}
-use Rattle.plain_state.specs.Images.{IsImage, image_of}
-use Rattle.plain_state.specs.Lawful.{Covers, Lawful}
-use Rattle.plain_state.specs.Lists.{entry_times, times}
-use Rattle.plain_state.specs.References.{deferrals, dying_times, over_seats, snapshot_times, strong_refs, weak_refs}
-use Rattle.plain_state.specs.Sound.{Sound, all_adds}
-use Rattle.plain_state.specs.State.{Plain, PlainSeat, new_seat, seat_at, slot_at, stage_at}
-use Rattle.plain_state.proofs.Kit.{entry_none, times_none}
-use Rattle.plain_store.specs.Heaps.{IsHeap}
-use Rattle.plain_store.specs.Settling.{IsSettled}
-use Rattle.heap_audit.specs.declared.finding.Audit.{Audit}
-use Rattle.heap_audit.specs.Heaps.{slot}
-use Rattle.heap_audit.proofs.Alike.{found_alike, many_alike}
+use Rattle.plain_audit.specs.plain_state.Limits.{most_slots}
+use Rattle.plain_audit.specs.plain_state.declared.image.Heap.{Heap}
+use Rattle.plain_audit.specs.plain_state.declared.slot.Kind.{Kind}
+use Rattle.plain_audit.specs.plain_state.declared.slot.Kind.TheVariants.{Strong, Weak, Disposal}
+use Rattle.plain_audit.specs.plain_state.declared.slot.SlotId.{SlotId}
+use Rattle.plain_audit.specs.plain_state.declared.slot.Stage.TheVariants.{Live, Ended, Husk}
+use Rattle.plain_audit.specs.plain_state.Fits.{AllFit}
+use Rattle.plain_audit.specs.plain_state.Images.{IsImage, image_of}
+use Rattle.plain_audit.specs.plain_state.Lawful.{Covers, Lawful}
+use Rattle.plain_audit.specs.plain_state.Lists.{entry_times, times}
+use Rattle.plain_audit.specs.plain_state.References.{deferrals, dying_times, over_seats, snapshot_times, strong_refs, weak_refs}
+use Rattle.plain_audit.specs.plain_state.Sound.{Sound, all_adds}
+use Rattle.plain_audit.specs.plain_state.State.{Plain, PlainSeat, new_seat, seat_at, slot_at, stage_at}
+use Rattle.plain_audit.proofs.Below.plain_state.Kit.{entry_none, times_none}
+use Rattle.plain_audit.specs.plain_store.Heaps.{IsHeap}
+use Rattle.plain_audit.specs.plain_store.Settling.{IsSettled}
+use Rattle.plain_audit.specs.heap_audit.declared.finding.Audit.{Audit}
+use Rattle.plain_audit.specs.heap_audit.Heaps.{slot}
+use Rattle.plain_audit.proofs.Below.heap_audit.Alike.{found_alike, many_alike}
 use Rattle.plain_audit.specs.Audits.{IsAudit}
 use Rattle.plain_audit.specs.Reached.{HasField, IsReached, IsRoot, IsUnreached}
 use Rattle.plain_audit.proofs.ImageLaws.{image_fits, image_in_range, image_lawful}

@@ -4,34 +4,34 @@ use Rattle.std.proofs.Common.{◌≡◌, ◌≢◌, ⊎_elim, ℕ, ◌+◌, ◌^
 use Rattle.std.proofs.lemmas.Bool.{cases_eq, cases_lt}
 use Rattle.std.proofs.lemmas.List.{length-map}
 use Rattle.std.proofs.lemmas.List.Elements.{All-from_get_or}
-use Rattle.plain_state.specs.declared.image.Heap.{Heap}
-use Rattle.plain_state.specs.declared.slot.Kind.TheVariants.{Strong, Weak, Disposal}
-use Rattle.plain_state.specs.declared.slot.PlainSlot.{PlainSlot}
-use Rattle.plain_state.specs.declared.slot.SlotId.{SlotId}
-use Rattle.plain_state.specs.declared.slot.Stage.TheVariants.{Free, Blank, Live, Ended, Husk}
-use Rattle.plain_state.specs.Fits.{AllFit}
-use Rattle.plain_state.specs.Images.{IsImage}
-use Rattle.plain_state.specs.Lists.{Entry, entry_times, times}
-use Rattle.plain_state.specs.References.{own_reference, strong_refs, weak_refs}
-use Rattle.plain_state.specs.Sound.{all_adds}
-use Rattle.plain_state.specs.Sound as plain
-use Rattle.plain_state.specs.State.{PlainSeat, new_seat, new_slot, seat_at, stage_at}
-use Rattle.core_events.specs.declared.shape.Shape.{Shape}
-use Rattle.core_events.specs.declared.view.CoreView.{CoreView}
-use Rattle.core_events.specs.Counts.{adds_used, dying_times, finishers, finishing, givers, giving, helpers, helping, refs, stage, total}
-use Rattle.core_events.specs.Good.{SeatLaw}
-use Rattle.core_events.specs.Runs.{Core, view_at}
-use Rattle.core_events.specs.Shows.{show_seat, show_slot, shows}
-use Rattle.core_events.specs.Words.{each_from, payload_at}
-use Rattle.core_law.specs.Slots.{Numbers, SlotLaw, asked, bare, blank, counted, free, husk, numbers, over}
-use Rattle.core_law.specs.Sound.{Sound}
-use Rattle.core_law.proofs.Each.{get_each, length_each}
-use Rattle.core_law.proofs.Kit.{entry_append, times_none}
-use Rattle.core_law.proofs.Parts.{stage_in, stage_is}
-use Rattle.core_law.proofs.Put.{adds_fit}
-use Rattle.core_law.proofs.Bridge.{refs_past, shown_dying, shown_past, shown_seat, shown_stage, shown_strong, shown_weak, total_zero}
-use Rattle.core_law.proofs.Lawful.{shows_lawful}
-use Rattle.core_law.proofs.Lists.{seats_sum}
+use Rattle.plain_audit.specs.plain_state.declared.image.Heap.{Heap}
+use Rattle.plain_audit.specs.plain_state.declared.slot.Kind.TheVariants.{Strong, Weak, Disposal}
+use Rattle.plain_audit.specs.plain_state.declared.slot.PlainSlot.{PlainSlot}
+use Rattle.plain_audit.specs.plain_state.declared.slot.SlotId.{SlotId}
+use Rattle.plain_audit.specs.plain_state.declared.slot.Stage.TheVariants.{Free, Blank, Live, Ended, Husk}
+use Rattle.plain_audit.specs.plain_state.Fits.{AllFit}
+use Rattle.plain_audit.specs.plain_state.Images.{IsImage}
+use Rattle.plain_audit.specs.plain_state.Lists.{Entry, entry_times, times}
+use Rattle.plain_audit.specs.plain_state.References.{own_reference, strong_refs, weak_refs}
+use Rattle.plain_audit.specs.plain_state.Sound.{all_adds}
+use Rattle.plain_audit.specs.plain_state.Sound as plain
+use Rattle.plain_audit.specs.plain_state.State.{PlainSeat, new_seat, new_slot, seat_at, stage_at}
+use Rattle.protected_loads.specs.core_events.declared.shape.Shape.{Shape}
+use Rattle.protected_loads.specs.core_events.declared.view.CoreView.{CoreView}
+use Rattle.protected_loads.specs.core_events.Counts.{adds_used, dying_times, finishers, finishing, givers, giving, helpers, helping, refs, stage, total}
+use Rattle.protected_loads.specs.core_events.Good.{SeatLaw}
+use Rattle.protected_loads.specs.core_events.Runs.{Core, view_at}
+use Rattle.protected_loads.specs.core_events.Shows.{show_seat, show_slot, shows}
+use Rattle.protected_loads.specs.core_events.Words.{each_from, payload_at}
+use Rattle.protected_loads.specs.core_law.Slots.{Numbers, SlotLaw, asked, bare, blank, counted, free, husk, numbers, over}
+use Rattle.protected_loads.specs.core_law.Sound.{Sound}
+use Rattle.protected_loads.proofs.Below.core_law.Each.{get_each, length_each}
+use Rattle.protected_loads.proofs.Below.core_law.Kit.{entry_append, times_none}
+use Rattle.protected_loads.proofs.Below.core_law.Parts.{stage_in, stage_is}
+use Rattle.protected_loads.proofs.Below.core_law.Put.{adds_fit}
+use Rattle.protected_loads.proofs.Below.core_law.Bridge.{refs_past, shown_dying, shown_past, shown_seat, shown_stage, shown_strong, shown_weak, total_zero}
+use Rattle.protected_loads.proofs.Below.core_law.Lawful.{shows_lawful}
+use Rattle.protected_loads.proofs.Below.core_law.Lists.{seats_sum}
 use Rattle.domain_audit.specs.Lone.{CanBeAudited, IsLone}
 use Rattle.domain_audit.proofs.OneSeat.{HasNothing, IsLoneState, can_be_audited}
 

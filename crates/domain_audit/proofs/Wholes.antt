@@ -1,22 +1,22 @@
 -- The audit of the image that a seat takes is one of the state that it knows.
 use Rattle.std.proofs.Common.{◌≡◌, ℕ, ◌^◌, ◌<◌, ◌≤◌, List, [], length, ap, sym, ◌∙◌, subst, arith}
 use Rattle.std.specs.Prelude.{IfOk, Result, Some}
-use Rattle.plain_state.specs.Limits.{most_slots}
-use Rattle.plain_state.specs.declared.image.Heap.{Heap}
-use Rattle.plain_state.specs.State.{Plain}
-use Rattle.core_events.specs.declared.view.CoreView.{CoreView}
-use Rattle.core_events.specs.Runs.{Core}
-use Rattle.core_events.specs.Shows.{shows}
-use Rattle.core_events.specs.Steps.{HasRoom, IsIdle}
-use Rattle.acquire_retire.specs.Domains.{DomainState}
-use Rattle.acquire_retire.specs.Seats.{SeatState}
-use Rattle.acquire_retire.specs.Wholes.{IsWholeImage, known_core}
-use Rattle.acquire_retire.proofs.Wholes.{then_ok}
-use Rattle.control_word.specs.Resting.{IsAtRest}
-use Rattle.heap_audit.specs.declared.finding.Audit.{Audit}
-use Rattle.heap_audit.specs.Heaps.{slot, live_bytes, live_slots}
-use Rattle.heap_audit.specs.Reached.{HowMany, IsUnreached}
-use Rattle.heap_audit.specs.Walks.{IsFound, IsWalk}
+use Rattle.plain_audit.specs.plain_state.Limits.{most_slots}
+use Rattle.plain_audit.specs.plain_state.declared.image.Heap.{Heap}
+use Rattle.plain_audit.specs.plain_state.State.{Plain}
+use Rattle.protected_loads.specs.core_events.declared.view.CoreView.{CoreView}
+use Rattle.protected_loads.specs.core_events.Runs.{Core}
+use Rattle.protected_loads.specs.core_events.Shows.{shows}
+use Rattle.protected_loads.specs.core_events.Steps.{HasRoom, IsIdle}
+use Rattle.protected_loads.specs.acquire_retire.Domains.{DomainState}
+use Rattle.protected_loads.specs.acquire_retire.Seats.{SeatState}
+use Rattle.protected_loads.specs.acquire_retire.Wholes.{IsWholeImage, known_core}
+use Rattle.slot_store.proofs.Below.acquire_retire.Wholes.{then_ok}
+use Rattle.protected_loads.specs.control_word.Resting.{IsAtRest}
+use Rattle.plain_audit.specs.heap_audit.declared.finding.Audit.{Audit}
+use Rattle.plain_audit.specs.heap_audit.Heaps.{slot, live_bytes, live_slots}
+use Rattle.plain_audit.specs.heap_audit.Reached.{HowMany, IsUnreached}
+use Rattle.plain_audit.specs.heap_audit.Walks.{IsFound, IsWalk}
 use Rattle.plain_audit.specs.Audits.{IsAudit}
 use Rattle.plain_audit.proofs.Auditing.{audit_made}
 use Rattle.domain_audit.specs.Audits.{IsWholeAudit, KnowsLone, Stays}

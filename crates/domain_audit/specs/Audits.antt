@@ -1,24 +1,24 @@
 -- What an audit tells a seat that is alone, and what it leaves of the seat.
 use Rattle.std.specs.Prelude.{ℕ, ◌≡◌, List, [], ◌∷◌, IsSome}
-use Rattle.plain_state.specs.declared.slot.Kind.TheVariants.{Strong}
-use Rattle.plain_state.specs.declared.slot.SlotId.{SlotId}
-use Rattle.plain_state.specs.Fits.{AllFit}
-use Rattle.plain_state.specs.State.{Plain}
-use Rattle.core_events.specs.declared.act.Act.TheVariants as act
-use Rattle.core_events.specs.declared.outcome.Outcome.TheVariants as outcome
-use Rattle.core_events.specs.declared.view.Move.{Move}
-use Rattle.core_events.specs.Runs.{view_at}
-use Rattle.core_events.specs.Shows.{shows}
-use Rattle.core_law.specs.Sound.{Sound}
-use Rattle.domain_rule.specs.declared.view.SeatView.{SeatView}
-use Rattle.domain_rule.specs.Rule.{OthersLeft}
-use Rattle.acquire_retire.specs.Calls.{IsSameView, same_view}
-use Rattle.acquire_retire.specs.Collecting.{move}
-use Rattle.acquire_retire.specs.Domains.{DomainState}
-use Rattle.acquire_retire.specs.Seats.{SeatState}
-use Rattle.acquire_retire.specs.Wholes.{KnowsState, known_core}
-use Rattle.control_word.specs.Moves.{Becomes}
-use Rattle.heap_audit.specs.declared.finding.Audit.{Audit}
+use Rattle.plain_audit.specs.plain_state.declared.slot.Kind.TheVariants.{Strong}
+use Rattle.plain_audit.specs.plain_state.declared.slot.SlotId.{SlotId}
+use Rattle.plain_audit.specs.plain_state.Fits.{AllFit}
+use Rattle.plain_audit.specs.plain_state.State.{Plain}
+use Rattle.protected_loads.specs.core_events.declared.act.Act.TheVariants as act
+use Rattle.protected_loads.specs.core_events.declared.outcome.Outcome.TheVariants as outcome
+use Rattle.protected_loads.specs.core_events.declared.view.Move.{Move}
+use Rattle.protected_loads.specs.core_events.Runs.{view_at}
+use Rattle.protected_loads.specs.core_events.Shows.{shows}
+use Rattle.protected_loads.specs.core_law.Sound.{Sound}
+use Rattle.protected_loads.specs.domain_rule.declared.view.SeatView.{SeatView}
+use Rattle.protected_loads.specs.domain_rule.Rule.{OthersLeft}
+use Rattle.protected_loads.specs.acquire_retire.Calls.{IsSameView, same_view}
+use Rattle.protected_loads.specs.acquire_retire.Collecting.{move}
+use Rattle.protected_loads.specs.acquire_retire.Domains.{DomainState}
+use Rattle.protected_loads.specs.acquire_retire.Seats.{SeatState}
+use Rattle.protected_loads.specs.acquire_retire.Wholes.{KnowsState, known_core}
+use Rattle.protected_loads.specs.control_word.Moves.{Becomes}
+use Rattle.plain_audit.specs.heap_audit.declared.finding.Audit.{Audit}
 use Rattle.plain_audit.specs.Audits.{IsAudit}
 
 -- the moves of a seat that announces a slot in its first word, and takes that back

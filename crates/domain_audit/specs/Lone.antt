@@ -1,10 +1,10 @@
 -- A core that one seat alone is in, and what an audit asks of its image.
 use Rattle.std.specs.Prelude.{ℕ, ◌≡◌, List, []}
-use Rattle.plain_state.specs.declared.image.Heap.{Heap}
-use Rattle.core_events.specs.Runs.{Core, view_at}
-use Rattle.core_events.specs.Steps.{IsIdle}
-use Rattle.domain_rule.specs.Rule.{OthersLeft}
-use Rattle.heap_audit.specs.Heaps.{HasFittingPayloads, IsInRange, IsLawful}
+use Rattle.plain_audit.specs.plain_state.declared.image.Heap.{Heap}
+use Rattle.protected_loads.specs.core_events.Runs.{Core, view_at}
+use Rattle.protected_loads.specs.core_events.Steps.{IsIdle}
+use Rattle.protected_loads.specs.domain_rule.Rule.{OthersLeft}
+use Rattle.plain_audit.specs.heap_audit.Heaps.{HasFittingPayloads, IsInRange, IsLawful}
 
 -- seat 0 is in the middle of nothing and has nothing dying, and every other seat has left
 pub record IsLone (c : Core) : Type 0 where

@@ -1,18 +1,15 @@
 //! The audit of a domain, by its image.
 ghost use Rattle.std.specs.Prelude.{◌≡◌, [], IfOk, length};
-ghost use Rattle.deleter.specs.Weighing.{Weighs};
-ghost use Rattle.core_events.specs.Steps.{HasRoom};
-ghost use Rattle.domain_rule.specs.Views.{IsAlone, own_of};
-ghost use Rattle.control_word.specs.Moves.{KnowsStill};
-ghost use Rattle.control_word.specs.Resting.{IsAtRest};
+ghost use Rattle.slot_store.specs.deleter.Weighing.{Weighs};
+ghost use Rattle.protected_loads.specs.core_events.Steps.{HasRoom};
+ghost use Rattle.protected_loads.specs.domain_rule.Views.{IsAlone, own_of};
+ghost use Rattle.protected_loads.specs.control_word.Moves.{KnowsStill};
+ghost use Rattle.protected_loads.specs.control_word.Resting.{IsAtRest};
 ghost use Rattle.domain_audit.specs.Audits.{IsWholeAudit, KnowsLone, Stays};
 
-use acquire_retire::{Domain, Kind, Seat, empty_image};
-use deleter::Deleter;
-use heap_audit::{Audit, audit};
-use out_of_memory::OutOfMemory;
-use plain_protocol::Protocol;
-use plain_state::Heap;
+use plain_audit::{Audit, Heap, audit};
+use protected_loads::{Domain, Kind, OutOfMemory, Protocol, Seat, empty_image};
+use slot_store::Deleter;
 use std::alloc::Global;
 
 /// A seat that is alone learns that the core which it knows is one that events reach. A step tells that, and an image

@@ -1,16 +1,16 @@
 //! What holds of the image of a domain that one seat alone is in, whatever takes it.
 ghost use Rattle.std.specs.Prelude.{List};
-ghost use Rattle.plain_state.specs.declared.image.Heap.{Heap};
-ghost use Rattle.plain_state.specs.Fits.{AllFit};
-ghost use Rattle.plain_state.specs.Images.{IsImage};
-ghost use Rattle.core_events.specs.declared.act.Event.{Event};
-ghost use Rattle.core_events.specs.declared.shape.Shape.{Shape};
-ghost use Rattle.core_events.specs.Runs.{AreTerms, Core, History, IsShape};
-ghost use Rattle.core_events.specs.Shows.{shows};
-ghost use Rattle.core_events.specs.Views.{Terms};
+ghost use Rattle.plain_audit.specs.plain_state.declared.image.Heap.{Heap};
+ghost use Rattle.plain_audit.specs.plain_state.Fits.{AllFit};
+ghost use Rattle.plain_audit.specs.plain_state.Images.{IsImage};
+ghost use Rattle.protected_loads.specs.core_events.declared.act.Event.{Event};
+ghost use Rattle.protected_loads.specs.core_events.declared.shape.Shape.{Shape};
+ghost use Rattle.protected_loads.specs.core_events.Runs.{AreTerms, Core, History, IsShape};
+ghost use Rattle.protected_loads.specs.core_events.Shows.{shows};
+ghost use Rattle.protected_loads.specs.core_events.Views.{Terms};
 ghost use Rattle.domain_audit.specs.Lone.{CanBeAudited, IsLone};
 
-use plain_state::PayloadKind;
+use protected_loads::PayloadKind;
 
 /// Of each state that events reach, where every seat but seat 0 has left, and that one is in the middle of nothing and
 /// has nothing dying: its image is lawful, all names in it are in range, and where the payloads of its objects fit,

@@ -20,9 +20,9 @@
 
 mod auditing;
 mod laws;
-#[cfg(test)]
-mod tests;
 
 pub use auditing::{audit_domain, audit_domain_in};
-pub use heap_audit::Audit;
 pub use laws::image_can_be_audited;
+pub use plain_audit::Audit;
+pub use protected_loads::{Domain, Seat, SlotId, Spent, drop_strong, empty_image, strong_count};
+pub use slot_store::{EventPlace, MakeError, Outcome, Strong, settle};

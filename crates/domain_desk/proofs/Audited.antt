@@ -1,12 +1,12 @@
 -- What an audit tells of the desk.
 use Rattle.std.proofs.Common.{◌≡◌, ℕ, ◌<◌, List, length, map, All, ap, sym, ◌∙◌}
 use Rattle.std.specs.Prelude.{string_bytes}
-use Rattle.heap_audit.specs.declared.finding.Audit.{Audit}
-use Rattle.plain_audit.specs.Audits.{IsAudit}
-use Rattle.plain_state.specs.declared.slot.SlotId.{SlotId}
-use Rattle.acquire_retire.specs.Seats.{SeatState}
+use Rattle.script_desk.specs.heap_audit.declared.finding.Audit.{Audit}
+use Rattle.script_desk.specs.plain_audit.Audits.{IsAudit}
+use Rattle.script_desk.specs.plain_state.declared.slot.SlotId.{SlotId}
+use Rattle.lone_heap.specs.acquire_retire.Seats.{SeatState}
 use Rattle.lone_heap.specs.Lone.{known_plain}
-use Rattle.script_lines.specs.declared.command.Command.TheVariants as command
+use Rattle.script_desk.specs.script_lines.declared.command.Command.TheVariants as command
 use Rattle.script_desk.specs.declared.said.Said.TheVariants as said
 use Rattle.script_desk.specs.declared.said.Shown.{Shown}
 use Rattle.script_desk.specs.Audits.{AreRanks}

@@ -1,22 +1,22 @@
 -- What tidies a heap tidies it also where the seat has no handles any more.
 use Rattle.std.proofs.Common.{◌≡◌, ⊎_elim, inl, inr, ℕ, ◌<◌, ◌≤◌, true, false, List, [], ◌∷◌, ◌++◌, length, refl, ap, sym, ◌∙◌, subst, arith, None}
 use Rattle.std.proofs.lemmas.List.{length-set, set-set}
-use Rattle.plain_state.specs.declared.act.EventPlace.{EventPlace}
-use Rattle.plain_state.specs.declared.act.EventPlace.TheVariants.{Cell, Field, WeakCell, WeakField}
-use Rattle.plain_state.specs.declared.act.PlainAct.{PlainAct}
-use Rattle.plain_state.specs.declared.act.PlainAct.TheVariants as act
-use Rattle.plain_state.specs.declared.slot.Kind.{Kind}
-use Rattle.plain_state.specs.declared.slot.Kind.TheVariants.{Strong, Weak, Disposal}
-use Rattle.plain_state.specs.declared.slot.SlotId.{SlotId}
-use Rattle.plain_state.specs.declared.slot.Stage.TheVariants.{Ended, Husk}
-use Rattle.plain_state.specs.Lawful.{Covers, IsCovered}
-use Rattle.plain_state.specs.Lists.{Loses, entry_times, times}
-use Rattle.plain_state.specs.Places.{CanDispose, field_of, with_field}
-use Rattle.plain_state.specs.References.{deferrals, over_seats, snapshot_times, strong_refs, weak_refs}
-use Rattle.plain_state.specs.State.{Plain, PlainSeat, seat_at, slot_at, with_seat, with_slot}
-use Rattle.plain_state.specs.Steps.{Does, IsReordering, IsSeat, joined}
-use Rattle.plain_state.proofs.Kit.{entry_none, seats_set, times_none}
-use Rattle.plain_settling.specs.Settling.{IsSurplus, Tidies, TidiesBy, TidiesTo}
+use Rattle.script_desk.specs.plain_state.declared.act.EventPlace.{EventPlace}
+use Rattle.script_desk.specs.plain_state.declared.act.EventPlace.TheVariants.{Cell, Field, WeakCell, WeakField}
+use Rattle.script_desk.specs.plain_state.declared.act.PlainAct.{PlainAct}
+use Rattle.script_desk.specs.plain_state.declared.act.PlainAct.TheVariants as act
+use Rattle.script_desk.specs.plain_state.declared.slot.Kind.{Kind}
+use Rattle.script_desk.specs.plain_state.declared.slot.Kind.TheVariants.{Strong, Weak, Disposal}
+use Rattle.script_desk.specs.plain_state.declared.slot.SlotId.{SlotId}
+use Rattle.script_desk.specs.plain_state.declared.slot.Stage.TheVariants.{Ended, Husk}
+use Rattle.script_desk.specs.plain_state.Lawful.{Covers, IsCovered}
+use Rattle.script_desk.specs.plain_state.Lists.{Loses, entry_times, times}
+use Rattle.script_desk.specs.plain_state.Places.{CanDispose, field_of, with_field}
+use Rattle.script_desk.specs.plain_state.References.{deferrals, over_seats, snapshot_times, strong_refs, weak_refs}
+use Rattle.script_desk.specs.plain_state.State.{Plain, PlainSeat, seat_at, slot_at, with_seat, with_slot}
+use Rattle.script_desk.specs.plain_state.Steps.{Does, IsReordering, IsSeat, joined}
+use Rattle.script_desk.proofs.Below.plain_state.Kit.{entry_none, seats_set, times_none}
+use Rattle.script_desk.specs.plain_settling.Settling.{IsSurplus, Tidies, TidiesBy, TidiesTo}
 use Rattle.script_desk.specs.declared.handle.Handle.{Handle}
 use Rattle.script_desk.specs.declared.handle.Handle.TheVariants.{Strong as StrongHand, Weak as WeakHand, Snapshot}
 use Rattle.script_desk.specs.Desks.{without_handles}

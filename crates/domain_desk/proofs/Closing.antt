@@ -3,10 +3,10 @@ use Rattle.std.proofs.Common.{◌≡◌, ℕ, ◌≤◌, suc, List, [], ◌∷�
 use Rattle.std.proofs.lemmas.List.{length-map}
 use Rattle.std.specs.Map.{values_of}
 use Rattle.std.specs.Prelude.{slice_index_or, slice_set}
-use Rattle.plain_state.specs.State.{Plain, PlainSeat, new_seat, seat_at}
-use Rattle.plain_state.specs.Steps.{Does}
-use Rattle.plain_settling.specs.Settling.{TidiesTo}
-use Rattle.plain_settling.proofs.Settling.{tidies_on}
+use Rattle.script_desk.specs.plain_state.State.{Plain, PlainSeat, new_seat, seat_at}
+use Rattle.script_desk.specs.plain_state.Steps.{Does}
+use Rattle.script_desk.specs.plain_settling.Settling.{TidiesTo}
+use Rattle.script_desk.proofs.Below.plain_settling.Settling.{tidies_on}
 use Rattle.lone_heap.specs.Lone.{ThenTidies}
 use Rattle.script_desk.specs.declared.handle.Handle.{Handle}
 use Rattle.script_desk.specs.Desks.{Names, without_handles}

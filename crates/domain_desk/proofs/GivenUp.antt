@@ -1,16 +1,16 @@
 -- Handles that are given up: what the desk's seat has then, and what the command did.
 use Rattle.std.proofs.Common.{◌≡◌, ℕ, Bool, false, List, refl, sym, ◌∙◌, subst, Option, Some, None}
-use Rattle.plain_state.specs.declared.act.PlainAct.TheVariants as act
-use Rattle.plain_state.specs.declared.slot.Kind.TheVariants as kind
-use Rattle.plain_state.specs.declared.slot.SlotId.{SlotId}
-use Rattle.plain_state.specs.State.{Plain}
-use Rattle.plain_state.specs.Steps.{Does}
-use Rattle.plain_store.specs.Calls.{ending}
-use Rattle.plain_settling.proofs.Settling.{tidies_none}
-use Rattle.acquire_retire.specs.Seats.{SeatState}
+use Rattle.script_desk.specs.plain_state.declared.act.PlainAct.TheVariants as act
+use Rattle.script_desk.specs.plain_state.declared.slot.Kind.TheVariants as kind
+use Rattle.script_desk.specs.plain_state.declared.slot.SlotId.{SlotId}
+use Rattle.script_desk.specs.plain_state.State.{Plain}
+use Rattle.script_desk.specs.plain_state.Steps.{Does}
+use Rattle.script_desk.specs.plain_store.Calls.{ending}
+use Rattle.script_desk.proofs.Below.plain_settling.Settling.{tidies_none}
+use Rattle.lone_heap.specs.acquire_retire.Seats.{SeatState}
 use Rattle.lone_heap.specs.declared.words.Words.{Words}
 use Rattle.lone_heap.specs.Lone.{ThenTidies, known_plain}
-use Rattle.script_lines.specs.declared.command.Command.{Command}
+use Rattle.script_desk.specs.script_lines.declared.command.Command.{Command}
 use Rattle.script_desk.specs.declared.handle.Handle.{Handle}
 use Rattle.script_desk.specs.declared.said.Said.TheVariants as said
 use Rattle.script_desk.specs.Desks.{Binds, Desk, Names, bound, scope_of}

@@ -2,22 +2,22 @@
 use Rattle.std.proofs.Common.{◌≡◌, ℕ, ◌+◌, List, [], ◌∷◌, refl, ap, sym, ◌∙◌, subst, Some}
 use Rattle.std.specs.Map.{values_of}
 use Rattle.std.specs.Prelude.{Result, Ok, Err, IfOk, slice_set}
-use Rattle.plain_state.specs.declared.act.PlainAct.{PlainAct}
-use Rattle.plain_state.specs.declared.act.PlainAct.TheVariants as act
-use Rattle.plain_state.specs.declared.slot.SlotId.{SlotId}
-use Rattle.plain_state.specs.State.{Plain, seat_at}
-use Rattle.plain_state.specs.Steps.{Does}
-use Rattle.plain_store.specs.Calls.{Gains, WeaklyGains}
-use Rattle.plain_store.specs.Heaps.{Makes, Owns, OwnsWeakly}
-use Rattle.plain_store.specs.Settling.{IsSettled, freed}
-use Rattle.plain_store.specs.Settling.{Settles as PlainSettles}
-use Rattle.plain_settling.specs.Settling.{Tidies, TidiesBy, TidiesTo}
-use Rattle.plain_settling.proofs.Settling.{tidies_none, tidies_on}
-use Rattle.acquire_retire.specs.Seats.{SeatState}
+use Rattle.script_desk.specs.plain_state.declared.act.PlainAct.{PlainAct}
+use Rattle.script_desk.specs.plain_state.declared.act.PlainAct.TheVariants as act
+use Rattle.script_desk.specs.plain_state.declared.slot.SlotId.{SlotId}
+use Rattle.script_desk.specs.plain_state.State.{Plain, seat_at}
+use Rattle.script_desk.specs.plain_state.Steps.{Does}
+use Rattle.script_desk.specs.plain_store.Calls.{Gains, WeaklyGains}
+use Rattle.script_desk.specs.plain_store.Heaps.{Makes, Owns, OwnsWeakly}
+use Rattle.script_desk.specs.plain_store.Settling.{IsSettled, freed}
+use Rattle.script_desk.specs.plain_store.Settling.{Settles as PlainSettles}
+use Rattle.script_desk.specs.plain_settling.Settling.{Tidies, TidiesBy, TidiesTo}
+use Rattle.script_desk.proofs.Below.plain_settling.Settling.{tidies_none, tidies_on}
+use Rattle.lone_heap.specs.acquire_retire.Seats.{SeatState}
 use Rattle.lone_heap.specs.declared.words.Words.{Words}
 use Rattle.lone_heap.specs.Lone.{IsReady, ThenTidies, known_plain}
 use Rattle.lone_heap.specs.Words.{AreNoted}
-use Rattle.script_lines.specs.declared.command.Command.{Command}
+use Rattle.script_desk.specs.script_lines.declared.command.Command.{Command}
 use Rattle.script_desk.specs.declared.handle.Handle.{Handle}
 use Rattle.script_desk.specs.declared.handle.Handle.TheVariants.{Strong, Weak}
 use Rattle.script_desk.specs.declared.said.Said.{Said}

@@ -1,10 +1,10 @@
 -- A reference to what a place holds: what the desk's seat has then, and what the command did.
 use Rattle.std.proofs.Common.{◌≡◌, ℕ, List, subst, Some}
 use Rattle.std.specs.Map.{values_of}
-use Rattle.plain_state.specs.declared.act.EventPlace.{EventPlace}
-use Rattle.plain_state.specs.declared.slot.SlotId.{SlotId}
-use Rattle.plain_store.specs.Calls.{Loads, WeaklyLoads}
-use Rattle.acquire_retire.specs.Seats.{SeatState}
+use Rattle.script_desk.specs.plain_state.declared.act.EventPlace.{EventPlace}
+use Rattle.script_desk.specs.plain_state.declared.slot.SlotId.{SlotId}
+use Rattle.script_desk.specs.plain_store.Calls.{Loads, WeaklyLoads}
+use Rattle.lone_heap.specs.acquire_retire.Seats.{SeatState}
 use Rattle.script_desk.specs.declared.handle.Handle.TheVariants.{Strong, Weak}
 use Rattle.script_desk.specs.Desks.{Names}
 use Rattle.script_desk.specs.Holding.{CountsMore}

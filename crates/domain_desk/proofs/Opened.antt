@@ -4,10 +4,10 @@ use Rattle.std.specs.Prelude.{replicate, slice_index_or}
 use Rattle.std.proofs.lemmas.Bool.{cases_lt}
 use Rattle.std.proofs.lemmas.List.{get_or-replicate, get_or_past, length-replicate}
 use Rattle.std.proofs.lemmas.List.Elements.{All-get_or}
-use Rattle.plain_state.specs.declared.slot.PlainSlot.{PlainSlot}
-use Rattle.plain_state.specs.declared.slot.SlotId.{SlotId}
-use Rattle.plain_state.specs.State.{Plain, empty, new_slot}
-use Rattle.plain_store.specs.Settling.{IsSettled}
+use Rattle.script_desk.specs.plain_state.declared.slot.PlainSlot.{PlainSlot}
+use Rattle.script_desk.specs.plain_state.declared.slot.SlotId.{SlotId}
+use Rattle.script_desk.specs.plain_state.State.{Plain, empty, new_slot}
+use Rattle.script_desk.specs.plain_store.Settling.{IsSettled}
 use Rattle.script_desk.specs.Desks.{Maker, Names, nobody}
 use Rattle.script_desk.specs.Holding.{Kept}
 use Rattle.script_desk.proofs.Closing.{kept_open}

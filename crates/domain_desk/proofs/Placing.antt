@@ -1,18 +1,18 @@
 -- What the desk's seat has after each call on a place, and what was begun.
 use Rattle.std.proofs.Common.{◌≡◌, ℕ, true, false, List, refl, ap, sym, ◌∙◌, subst, arith, Option, Some, None, IfSome}
 use Rattle.std.specs.Map.{values_of}
-use Rattle.plain_state.specs.declared.act.EventPlace.{EventPlace}
-use Rattle.plain_state.specs.declared.slot.Kind.{Kind}
-use Rattle.plain_state.specs.declared.slot.Kind.TheVariants as kind
-use Rattle.plain_state.specs.declared.slot.SlotId.{SlotId}
-use Rattle.plain_state.specs.Places.{Holds, IsOpen, place_kind}
-use Rattle.plain_state.specs.State.{Plain, seat_at}
-use Rattle.plain_store.specs.Calls.{MayGive, Puts}
-use Rattle.acquire_retire.specs.Seats.{SeatState}
+use Rattle.script_desk.specs.plain_state.declared.act.EventPlace.{EventPlace}
+use Rattle.script_desk.specs.plain_state.declared.slot.Kind.{Kind}
+use Rattle.script_desk.specs.plain_state.declared.slot.Kind.TheVariants as kind
+use Rattle.script_desk.specs.plain_state.declared.slot.SlotId.{SlotId}
+use Rattle.script_desk.specs.plain_state.Places.{Holds, IsOpen, place_kind}
+use Rattle.script_desk.specs.plain_state.State.{Plain, seat_at}
+use Rattle.script_desk.specs.plain_store.Calls.{MayGive, Puts}
+use Rattle.lone_heap.specs.acquire_retire.Seats.{SeatState}
 use Rattle.lone_heap.specs.Lone.{ThenTidies, known_plain}
-use Rattle.script_lines.specs.declared.command.Command.TheVariants as command
-use Rattle.script_lines.specs.declared.command.TextPlace.{TextPlace}
-use Rattle.script_lines.specs.declared.command.TextPlace.TheVariants as text
+use Rattle.script_desk.specs.script_lines.declared.command.Command.TheVariants as command
+use Rattle.script_desk.specs.script_lines.declared.command.TextPlace.{TextPlace}
+use Rattle.script_desk.specs.script_lines.declared.command.TextPlace.TheVariants as text
 use Rattle.script_desk.specs.declared.handle.Handle.{Handle}
 use Rattle.script_desk.specs.declared.handle.Handle.TheVariants.{Strong, Weak, Snapshot}
 use Rattle.script_desk.specs.declared.said.Said.TheVariants as said

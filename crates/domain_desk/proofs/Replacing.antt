@@ -2,18 +2,18 @@
 use Rattle.std.proofs.Common.{Bool, ◌≡◌, ⊎_elim, inl, inr, MatchOption, ℕ, ◌<◌, true, false, List, [], length, refl, ap, sym, ◌∙◌, subst, Option, Some, None, IfSome}
 use Rattle.std.specs.Map.{values_of}
 use Rattle.std.specs.Option.{option_and_then}
-use Rattle.plain_state.specs.declared.act.EventPlace.{EventPlace}
-use Rattle.plain_state.specs.declared.slot.Kind.{Kind}
-use Rattle.plain_state.specs.declared.slot.Kind.TheVariants as kind
-use Rattle.plain_state.specs.declared.slot.SlotId.{SlotId}
-use Rattle.plain_state.specs.Places.{place_kind}
-use Rattle.plain_state.specs.State.{Plain, seat_at}
-use Rattle.plain_state.specs.Steps.{Replaces}
-use Rattle.plain_store.specs.Calls.{MayGive, Tries}
-use Rattle.acquire_retire.specs.Seats.{SeatState}
+use Rattle.script_desk.specs.plain_state.declared.act.EventPlace.{EventPlace}
+use Rattle.script_desk.specs.plain_state.declared.slot.Kind.{Kind}
+use Rattle.script_desk.specs.plain_state.declared.slot.Kind.TheVariants as kind
+use Rattle.script_desk.specs.plain_state.declared.slot.SlotId.{SlotId}
+use Rattle.script_desk.specs.plain_state.Places.{place_kind}
+use Rattle.script_desk.specs.plain_state.State.{Plain, seat_at}
+use Rattle.script_desk.specs.plain_state.Steps.{Replaces}
+use Rattle.script_desk.specs.plain_store.Calls.{MayGive, Tries}
+use Rattle.lone_heap.specs.acquire_retire.Seats.{SeatState}
 use Rattle.lone_heap.specs.Lone.{ThenTidies, known_plain}
-use Rattle.script_lines.specs.declared.command.Command.TheVariants as command
-use Rattle.script_lines.specs.declared.command.TextPlace.{TextPlace}
+use Rattle.script_desk.specs.script_lines.declared.command.Command.TheVariants as command
+use Rattle.script_desk.specs.script_lines.declared.command.TextPlace.{TextPlace}
 use Rattle.script_desk.specs.declared.handle.Handle.{Handle}
 use Rattle.script_desk.specs.declared.handle.Handle.TheVariants.{Strong, Weak, Snapshot}
 use Rattle.script_desk.specs.declared.said.Said.TheVariants as said

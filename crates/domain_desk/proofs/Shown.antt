@@ -1,14 +1,14 @@
 -- What the trail shows of commands, as a desk's calls have it.
 use Rattle.std.proofs.Common.{◌≡◌, ℕ, Bool, true, false, List, [], sym, subst, refl}
 use Rattle.std.specs.Prelude.{Option, Some, None, Result, IfOk}
-use Rattle.plain_state.specs.declared.act.EventPlace.{EventPlace}
-use Rattle.plain_state.specs.declared.slot.SlotId.{SlotId}
-use Rattle.core_events.specs.declared.view.CoreView.{CoreView}
+use Rattle.script_desk.specs.plain_state.declared.act.EventPlace.{EventPlace}
+use Rattle.script_desk.specs.plain_state.declared.slot.SlotId.{SlotId}
+use Rattle.lone_heap.specs.core_events.declared.view.CoreView.{CoreView}
 use Rattle.lone_heap.specs.Trails.{Shows, ShowsPut, ShowsTry, exchanged, lost, replaced}
 use Rattle.lone_heap.proofs.Trailing.{shows_first}
-use Rattle.script_lines.specs.declared.command.Command.{Command}
-use Rattle.script_lines.specs.declared.command.Command.TheVariants as command
-use Rattle.script_lines.specs.declared.command.TextPlace.{TextPlace}
+use Rattle.script_desk.specs.script_lines.declared.command.Command.{Command}
+use Rattle.script_desk.specs.script_lines.declared.command.Command.TheVariants as command
+use Rattle.script_desk.specs.script_lines.declared.command.TextPlace.{TextPlace}
 use Rattle.script_desk.specs.declared.said.Said.{Said}
 use Rattle.script_desk.specs.declared.said.Said.TheVariants as said
 use Rattle.domain_desk.specs.Desks.{DeskState, core_of}

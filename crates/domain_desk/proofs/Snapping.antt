@@ -1,18 +1,18 @@
 -- Snapshots of the desk's seat: taken, and kept by a reference.
 use Rattle.std.proofs.Common.{◌≡◌, ℕ, Bool, true, List, refl, sym, ◌∙◌, subst, Some}
 use Rattle.std.specs.Map.{values_of}
-use Rattle.plain_state.specs.declared.act.EventPlace.{EventPlace}
-use Rattle.plain_state.specs.declared.slot.Kind.TheVariants as kind
-use Rattle.plain_state.specs.declared.slot.SlotId.{SlotId}
-use Rattle.plain_state.specs.Places.{HoldsStrongly, place_kind}
-use Rattle.plain_state.specs.State.{seat_at}
-use Rattle.plain_store.specs.Calls.{Gains}
-use Rattle.plain_settling.specs.Snapshots.{Takes}
-use Rattle.acquire_retire.specs.Seats.{SeatState}
+use Rattle.script_desk.specs.plain_state.declared.act.EventPlace.{EventPlace}
+use Rattle.script_desk.specs.plain_state.declared.slot.Kind.TheVariants as kind
+use Rattle.script_desk.specs.plain_state.declared.slot.SlotId.{SlotId}
+use Rattle.script_desk.specs.plain_state.Places.{HoldsStrongly, place_kind}
+use Rattle.script_desk.specs.plain_state.State.{seat_at}
+use Rattle.script_desk.specs.plain_store.Calls.{Gains}
+use Rattle.script_desk.specs.plain_settling.Snapshots.{Takes}
+use Rattle.lone_heap.specs.acquire_retire.Seats.{SeatState}
 use Rattle.lone_heap.specs.declared.words.Words.{Words}
 use Rattle.lone_heap.specs.Lone.{IsReady, known_plain}
 use Rattle.lone_heap.specs.Words.{AreNoted}
-use Rattle.script_lines.specs.declared.command.Command.TheVariants as command
+use Rattle.script_desk.specs.script_lines.declared.command.Command.TheVariants as command
 use Rattle.script_desk.specs.declared.handle.Handle.{Handle}
 use Rattle.script_desk.specs.declared.handle.Handle.TheVariants.{Strong, Weak, Snapshot}
 use Rattle.script_desk.specs.declared.said.Said.TheVariants as said

@@ -1,11 +1,11 @@
 -- What is told of the heap changes nothing; and a reference that was gained, or wasn't, and its name.
 use Rattle.std.proofs.Common.{◌≡◌, ℕ, List, refl, ap, ◌∙◌, Some}
 use Rattle.std.specs.Prelude.{slice_index}
-use Rattle.plain_state.specs.declared.slot.SlotId.{SlotId}
-use Rattle.plain_state.specs.State.{Plain, slot_at}
-use Rattle.acquire_retire.specs.Seats.{SeatState}
+use Rattle.script_desk.specs.plain_state.declared.slot.SlotId.{SlotId}
+use Rattle.script_desk.specs.plain_state.State.{Plain, slot_at}
+use Rattle.lone_heap.specs.acquire_retire.Seats.{SeatState}
 use Rattle.lone_heap.specs.Lone.{known_plain}
-use Rattle.script_lines.specs.declared.command.Command.TheVariants as command
+use Rattle.script_desk.specs.script_lines.declared.command.Command.TheVariants as command
 use Rattle.script_desk.specs.declared.handle.Handle.{Handle}
 use Rattle.script_desk.specs.declared.said.Said.TheVariants as said
 use Rattle.script_desk.specs.declared.sizes.Sizes.{Sizes}

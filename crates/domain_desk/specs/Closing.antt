@@ -1,6 +1,6 @@
 -- What a seat has when all handles were given up.
 use Rattle.std.specs.Prelude.{◌≡◌, []}
-use Rattle.plain_state.specs.State.{PlainSeat}
+use Rattle.script_desk.specs.plain_state.State.{PlainSeat}
 
 -- it owns nothing, owns nothing weakly, and is under no snapshot
 pub record HasNoHandles (v : PlainSeat) : Type 0 where

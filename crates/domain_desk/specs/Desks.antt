@@ -1,9 +1,9 @@
 -- What a script has between two commands on a domain, and the desk that this is.
 use Rattle.std.specs.Prelude.{ℕ, List}
-use Rattle.plain_state.specs.State.{Plain}
-use Rattle.core_events.specs.declared.view.CoreView.{CoreView}
-use Rattle.acquire_retire.specs.Domains.{DomainState}
-use Rattle.acquire_retire.specs.Seats.{SeatState}
+use Rattle.script_desk.specs.plain_state.State.{Plain}
+use Rattle.lone_heap.specs.core_events.declared.view.CoreView.{CoreView}
+use Rattle.lone_heap.specs.acquire_retire.Domains.{DomainState}
+use Rattle.lone_heap.specs.acquire_retire.Seats.{SeatState}
 use Rattle.lone_heap.specs.declared.words.Words.{Words}
 use Rattle.lone_heap.specs.Lone.{IsReady, known_plain}
 use Rattle.lone_heap.specs.Words.{AreNoted}

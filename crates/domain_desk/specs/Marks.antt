@@ -1,15 +1,15 @@
 -- The moves that show a command, and what the trail of a desk's seat shows of it.
 use Rattle.std.specs.Prelude.{◌≡◌, List, [], ◌∷◌, Option, Some, None}
-use Rattle.plain_state.specs.declared.act.EventPlace.{EventPlace}
-use Rattle.plain_state.specs.declared.slot.SlotId.{SlotId}
-use Rattle.core_events.specs.declared.act.Act.TheVariants as act
-use Rattle.core_events.specs.declared.outcome.Outcome.TheVariants as outcome
-use Rattle.core_events.specs.declared.view.CoreView.{CoreView}
-use Rattle.core_events.specs.declared.view.Move.{Move}
-use Rattle.acquire_retire.specs.Collecting.{move}
+use Rattle.script_desk.specs.plain_state.declared.act.EventPlace.{EventPlace}
+use Rattle.script_desk.specs.plain_state.declared.slot.SlotId.{SlotId}
+use Rattle.lone_heap.specs.core_events.declared.act.Act.TheVariants as act
+use Rattle.lone_heap.specs.core_events.declared.outcome.Outcome.TheVariants as outcome
+use Rattle.lone_heap.specs.core_events.declared.view.CoreView.{CoreView}
+use Rattle.lone_heap.specs.core_events.declared.view.Move.{Move}
+use Rattle.lone_heap.specs.acquire_retire.Collecting.{move}
 use Rattle.lone_heap.specs.Trails.{Shows, counted, exchanged, found_ended, lost, replaced, upgraded}
-use Rattle.script_lines.specs.declared.command.Command.{Command}
-use Rattle.script_lines.specs.declared.command.Command.TheVariants as command
+use Rattle.script_desk.specs.script_lines.declared.command.Command.{Command}
+use Rattle.script_desk.specs.script_lines.declared.command.Command.TheVariants as command
 use Rattle.script_desk.specs.declared.said.Said.{Said}
 use Rattle.script_desk.specs.declared.said.Said.TheVariants as said
 

@@ -1,7 +1,7 @@
 -- What a command has done on a domain before all is tidied that may be.
 use Rattle.std.specs.Prelude.{ℕ, ◌≡◌, List, Some}
-use Rattle.plain_state.specs.Steps.{Does}
-use Rattle.script_lines.specs.declared.command.Command.{Command}
+use Rattle.script_desk.specs.plain_state.Steps.{Does}
+use Rattle.script_desk.specs.script_lines.declared.command.Command.{Command}
 use Rattle.script_desk.specs.declared.handle.Handle.{Handle}
 use Rattle.script_desk.specs.declared.said.Said.{Said}
 use Rattle.script_desk.specs.Desks.{Desk, Tidied, bound}

@@ -1,18 +1,16 @@
 //! What an audit of the heap shows, by names.
 ghost use Rattle.std.specs.Prelude.{IfOk, OnOk};
-ghost use Rattle.deleter.specs.Weighing.{Weighs};
-ghost use Rattle.plain_store.specs.Settling.{IsSettled};
-ghost use Rattle.script_lines.specs.declared.command.Command.TheVariants as command;
+ghost use Rattle.script_desk.specs.deleter.Weighing.{Weighs};
+ghost use Rattle.script_desk.specs.plain_store.Settling.{IsSettled};
+ghost use Rattle.script_desk.specs.script_lines.declared.command.Command.TheVariants as command;
 ghost use Rattle.script_desk.specs.Effects.{Acts};
 ghost use Rattle.script_desk.specs.Kinds.{IsScriptPayload, script_weight};
 ghost use Rattle.domain_desk.specs.Marks.{ShowsCommand};
 ghost use Rattle.domain_desk.specs.Desks.{core_of, desk_of, IsKept, plain_of};
 
 use crate::desk::DomainDesk;
-use deleter::Deleter;
 use lone_heap::audit_lone;
-use out_of_memory::OutOfMemory;
-use script_desk::{Said, ScriptKind, Shown, makers_of, ranks};
+use script_desk::{Deleter, OutOfMemory, Said, ScriptKind, Shown, makers_of, ranks};
 
 impl DomainDesk {
     /// What lives, waits and lies in cycles.

@@ -1,12 +1,10 @@
 //! What a script has between two commands.
-ghost use Rattle.plain_protocol.specs.declared.no_law.NoLaw.{NoLaw as NoLawOf};
+ghost use Rattle.script_desk.specs.plain_protocol.declared.no_law.NoLaw.{NoLaw as NoLawOf};
 ghost use Rattle.script_desk.specs.declared.kind.ScriptKind.{ScriptKind as Kind};
 ghost use Rattle.domain_desk.specs.Desks.{DeskState};
 
-use acquire_retire::{Domain, Seat};
-use lone_heap::Words;
-use plain_protocol::NoLaw;
-use script_desk::{Make, NameTable, ScriptKind};
+use lone_heap::{Domain, Seat, Words};
+use script_desk::{Make, NameTable, NoLaw, ScriptKind};
 use std::alloc::Global;
 use std::marker::Model;
 

@@ -5,9 +5,7 @@ ghost use Rattle.script_desk.specs.Faults.{IsFault};
 ghost use Rattle.domain_desk.specs.Desks.{IsKept, desk_of, sizes_of};
 
 use crate::desk::DomainDesk;
-use line_words::Reason;
-use script_desk::{Sizes, fault};
-use script_lines::Command;
+use script_desk::{Command, Reason, Sizes, fault};
 
 impl DomainDesk {
     /// Why the command is refused: the first of range, name and kind that is wrong with it, or None where nothing is.

@@ -1,11 +1,11 @@
 //! Handles are given up, one by its name, and all of them at the end.
 ghost use Rattle.std.specs.Prelude.{◌≡◌, []};
-ghost use Rattle.plain_state.specs.State.{seat_at};
-ghost use Rattle.plain_state.specs.Steps.{Does};
-ghost use Rattle.plain_settling.specs.Settling.{TidiesTo};
-ghost use Rattle.plain_store.specs.Calls.{HasSnapshot, ending};
-ghost use Rattle.plain_store.specs.Settling.{IsSettled};
-ghost use Rattle.deleter.specs.Weighing.{Weighs};
+ghost use Rattle.script_desk.specs.plain_state.State.{seat_at};
+ghost use Rattle.script_desk.specs.plain_state.Steps.{Does};
+ghost use Rattle.script_desk.specs.plain_settling.Settling.{TidiesTo};
+ghost use Rattle.script_desk.specs.plain_store.Calls.{HasSnapshot, ending};
+ghost use Rattle.script_desk.specs.plain_store.Settling.{IsSettled};
+ghost use Rattle.script_desk.specs.deleter.Weighing.{Weighs};
 ghost use Rattle.lone_heap.specs.Lone.{IsReady, ThenTidies, known_plain};
 ghost use Rattle.lone_heap.specs.Words.{AreNoted};
 ghost use Rattle.script_desk.specs.Desks.{without_handles};
@@ -19,14 +19,8 @@ ghost use Rattle.domain_desk.specs.Desks.{core_of, IsKept, desk_of, plain_of};
 ghost use Rattle.domain_desk.specs.Runs.{GivesNamed};
 
 use crate::desk::DomainDesk;
-use acquire_retire::{Domain, Seat};
-use counted_handles::{Strong, Weak};
-use deleter::Deleter;
-use lone_heap::{Words, end, give, give_weak, settle_all};
-use plain_protocol::NoLaw;
-use plain_store::{SnapHand, counted};
-use script_desk::{Handle, ScriptKind};
-use script_lines::Name;
+use lone_heap::{Domain, Seat, Strong, Weak, Words, end, give, give_weak, settle_all};
+use script_desk::{Deleter, Handle, Name, NoLaw, ScriptKind, SnapHand, counted};
 
 /// Ends the snapshot: its word protects nothing then, or where it is counted its reference is given up.
 fn end_snapshot(

@@ -30,7 +30,6 @@ mod references;
 mod running;
 mod snapshots;
 mod telling;
-#[cfg(test)]
-mod tests;
 
 pub use desk::DomainDesk;
+pub use lone_heap::{PairKind, Seat};

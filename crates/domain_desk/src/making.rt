@@ -1,6 +1,6 @@
 //! Objects are made.
 ghost use Rattle.std.specs.Prelude.{◌≡◌, ◌≤◌, ◌^◌, IfOk, OnOk, None};
-ghost use Rattle.script_lines.specs.declared.command.Command.TheVariants as command;
+ghost use Rattle.script_desk.specs.script_lines.declared.command.Command.TheVariants as command;
 ghost use Rattle.script_desk.specs.Desks.{bound};
 ghost use Rattle.script_desk.specs.Effects.{MakesOne};
 ghost use Rattle.domain_desk.specs.Marks.{ShowsCommand};
@@ -8,10 +8,7 @@ ghost use Rattle.domain_desk.specs.Desks.{core_of, desk_of, IsKept};
 
 use crate::desk::DomainDesk;
 use lone_heap::{MakeError, make};
-use out_of_memory::OutOfMemory;
-use plain_store::Hand;
-use script_desk::{Handle, Make, Said, payload_of};
-use script_lines::Name;
+use script_desk::{Hand, Handle, Make, Name, OutOfMemory, Said, payload_of};
 
 impl DomainDesk {
     /// A new object of this weight, or none where no slot is free.

@@ -1,16 +1,15 @@
 //! A desk is opened.
 ghost use Rattle.std.specs.Prelude.{◌≡◌, ◌≤◌, [], IfOk};
-ghost use Rattle.plain_state.specs.Limits.{most_cells, most_slots, most_weak_cells};
-ghost use Rattle.plain_state.specs.declared.slot.SlotId.{SlotId};
-ghost use Rattle.plain_state.specs.State.{empty};
-ghost use Rattle.plain_store.specs.Settling.{IsSettled};
+ghost use Rattle.script_desk.specs.plain_state.Limits.{most_cells, most_slots, most_weak_cells};
+ghost use Rattle.script_desk.specs.plain_state.declared.slot.SlotId.{SlotId};
+ghost use Rattle.script_desk.specs.plain_state.State.{empty};
+ghost use Rattle.script_desk.specs.plain_store.Settling.{IsSettled};
 ghost use Rattle.script_desk.specs.Desks.{maker_of, nobody};
 ghost use Rattle.domain_desk.specs.Desks.{IsKept, core_of, desk_of, plain_of};
 
 use crate::desk::DomainDesk;
 use lone_heap::open;
-use out_of_memory::OutOfMemory;
-use script_desk::{NameTable, ScriptKind, no_makers};
+use script_desk::{NameTable, OutOfMemory, ScriptKind, no_makers};
 use std::alloc::Global;
 
 impl DomainDesk {

@@ -1,8 +1,8 @@
 //! Places: put, cleared, loaded, replaced.
 ghost use Rattle.std.specs.Prelude.{◌≡◌, false, IfOk, OnOk, None, []};
-ghost use Rattle.plain_state.specs.declared.slot.Kind.TheVariants as kind;
-ghost use Rattle.plain_state.specs.Places.{IsOpen, place_kind};
-ghost use Rattle.script_lines.specs.declared.command.Command.TheVariants as command;
+ghost use Rattle.script_desk.specs.plain_state.declared.slot.Kind.TheVariants as kind;
+ghost use Rattle.script_desk.specs.plain_state.Places.{IsOpen, place_kind};
+ghost use Rattle.script_desk.specs.script_lines.declared.command.Command.TheVariants as command;
 ghost use Rattle.script_desk.specs.declared.said.Said.TheVariants as said;
 ghost use Rattle.script_desk.specs.Desks.{bound};
 ghost use Rattle.script_desk.specs.Effects.{Acts, LoadsStrong, LoadsWeak};
@@ -16,11 +16,9 @@ ghost use Rattle.domain_desk.specs.Runs.{Begins};
 
 use crate::desk::DomainDesk;
 use lone_heap::{load, put, try_put};
-use out_of_memory::OutOfMemory;
-use plain_state::EventPlace;
-use plain_store::{Hand, WeakHand};
-use script_desk::{Handle, Said, place_of};
-use script_lines::{Name, TextPlace};
+use script_desk::{
+    EventPlace, Hand, Handle, Name, OutOfMemory, Said, TextPlace, WeakHand, place_of,
+};
 
 impl DomainDesk {
     /// The place holds what the name was bound to.

@@ -1,6 +1,6 @@
 //! References: one more.
 ghost use Rattle.std.specs.Prelude.{◌≡◌, IfOk, OnOk, None};
-ghost use Rattle.script_lines.specs.declared.command.Command.TheVariants as command;
+ghost use Rattle.script_desk.specs.script_lines.declared.command.Command.TheVariants as command;
 ghost use Rattle.script_desk.specs.Desks.{bound};
 ghost use Rattle.script_desk.specs.Effects.{Acts};
 ghost use Rattle.script_desk.specs.Handles.{is_strong, is_weak};
@@ -9,13 +9,8 @@ ghost use Rattle.domain_desk.specs.Marks.{ShowsCommand};
 ghost use Rattle.domain_desk.specs.Desks.{core_of, desk_of, IsKept};
 
 use crate::desk::DomainDesk;
-use control_word::UpgradeError;
-use counted_handles::{Strong, Weak};
-use lone_heap::{copy, copy_weakly, upgrade_lone, weaken_lone};
-use out_of_memory::OutOfMemory;
-use plain_store::{Hand, WeakHand};
-use script_desk::{Handle, Said};
-use script_lines::Name;
+use lone_heap::{Strong, UpgradeError, Weak, copy, copy_weakly, upgrade_lone, weaken_lone};
+use script_desk::{Hand, Handle, Name, OutOfMemory, Said, WeakHand};
 
 impl DomainDesk {
     /// One more strong reference, by another name.

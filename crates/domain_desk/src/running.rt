@@ -1,7 +1,7 @@
 //! A command is run.
 ghost use Rattle.std.specs.Prelude.{IfOk, OnOk, []};
-ghost use Rattle.deleter.specs.Weighing.{Weighs};
-ghost use Rattle.plain_store.specs.Settling.{IsSettled};
+ghost use Rattle.script_desk.specs.deleter.Weighing.{Weighs};
+ghost use Rattle.script_desk.specs.plain_store.Settling.{IsSettled};
 ghost use Rattle.script_desk.specs.Desks.{Tidied, scope_of};
 ghost use Rattle.script_desk.specs.Effects.{Runs};
 ghost use Rattle.script_desk.specs.Faults.{IsFaultless};
@@ -12,11 +12,8 @@ ghost use Rattle.domain_desk.specs.Desks.{core_of, desk_of, IsKept, plain_of};
 ghost use Rattle.domain_desk.specs.Runs.{Begins};
 
 use crate::desk::DomainDesk;
-use deleter::Deleter;
 use lone_heap::settle_all;
-use out_of_memory::OutOfMemory;
-use script_desk::{Said, ScriptKind};
-use script_lines::Command;
+use script_desk::{Command, Deleter, OutOfMemory, Said, ScriptKind};
 
 impl DomainDesk {
     /// Does what the command says, lets the seat settle, and answers what the command answers. After an allocation

@@ -1,6 +1,6 @@
 //! Snapshots: taken, and kept by a reference.
 ghost use Rattle.std.specs.Prelude.{◌≡◌, false, IfOk, OnOk, None};
-ghost use Rattle.script_lines.specs.declared.command.Command.TheVariants as command;
+ghost use Rattle.script_desk.specs.script_lines.declared.command.Command.TheVariants as command;
 ghost use Rattle.script_desk.specs.Desks.{bound};
 ghost use Rattle.script_desk.specs.Effects.{Acts, snapped};
 ghost use Rattle.script_desk.specs.Faults.{IsPlaceInRange, is_weak_place, place_needs};
@@ -11,10 +11,7 @@ ghost use Rattle.domain_desk.specs.Desks.{core_of, desk_of, IsKept, sizes_of};
 
 use crate::desk::DomainDesk;
 use lone_heap::{keep, snap};
-use out_of_memory::OutOfMemory;
-use plain_store::{Hand, SnapHand};
-use script_desk::{Handle, Said, place_of};
-use script_lines::{Name, TextPlace};
+use script_desk::{Hand, Handle, Name, OutOfMemory, Said, SnapHand, TextPlace, place_of};
 
 /// What a snapshot answers that was taken.
 fn taken(counted: bool) -> Said

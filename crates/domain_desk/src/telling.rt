@@ -1,9 +1,9 @@
 //! What is told of the heap: a word, the counts of an object, an audit.
 ghost use Rattle.std.specs.Prelude.{◌≡◌, ◌<◌, IfOk, OnOk};
-ghost use Rattle.plain_state.specs.Limits.{words_of_payload};
-ghost use Rattle.deleter.specs.Weighing.{Weighs};
-ghost use Rattle.plain_store.specs.Settling.{IsSettled};
-ghost use Rattle.script_lines.specs.declared.command.Command.TheVariants as command;
+ghost use Rattle.script_desk.specs.plain_state.Limits.{words_of_payload};
+ghost use Rattle.script_desk.specs.deleter.Weighing.{Weighs};
+ghost use Rattle.script_desk.specs.plain_store.Settling.{IsSettled};
+ghost use Rattle.script_desk.specs.script_lines.declared.command.Command.TheVariants as command;
 ghost use Rattle.script_desk.specs.Effects.{Acts};
 ghost use Rattle.script_desk.specs.Handles.{is_any};
 ghost use Rattle.script_desk.specs.Places.{IsBoundTo};
@@ -12,8 +12,7 @@ ghost use Rattle.domain_desk.specs.Desks.{core_of, desk_of, IsKept, plain_of};
 
 use crate::desk::DomainDesk;
 use lone_heap::{counts, read};
-use script_desk::Said;
-use script_lines::Name;
+use script_desk::{Name, Said};
 
 impl DomainDesk {
     /// A word of the payload.

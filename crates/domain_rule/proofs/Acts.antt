@@ -2,24 +2,24 @@
 use Rattle.std.proofs.Common.{◌≡◌, ◌≢◌, ℕ, Bool, true, false, List, [], ◌∷◌, refl, ap, sym, ◌∙◌, arith}
 use Rattle.std.specs.Prelude.{◌==◌, if◌then◌else◌, Option, Some, None}
 use Rattle.std.proofs.lemmas.Bool.Decides.{nat_tests}
-use Rattle.plain_state.specs.declared.act.PlainAct.{PlainAct}
-use Rattle.plain_state.specs.declared.act.PlainAct.TheVariants as plain
-use Rattle.plain_state.specs.declared.slot.SlotId.{SlotId}
-use Rattle.plain_state.specs.Lists.{Entry}
-use Rattle.plain_state.proofs.Kit.{slot_is}
+use Rattle.plain_protocol.specs.plain_state.declared.act.PlainAct.{PlainAct}
+use Rattle.plain_protocol.specs.plain_state.declared.act.PlainAct.TheVariants as plain
+use Rattle.plain_protocol.specs.plain_state.declared.slot.SlotId.{SlotId}
+use Rattle.plain_protocol.specs.plain_state.Lists.{Entry}
+use Rattle.plain_protocol.proofs.Below.plain_state.Kit.{slot_is}
 use Rattle.plain_protocol.specs.Owns.{Object}
-use Rattle.core_events.specs.declared.act.Act.{Act}
-use Rattle.core_events.specs.declared.act.Act.TheVariants as act
-use Rattle.core_events.specs.declared.shape.Shape.{Shape}
-use Rattle.core_events.specs.declared.view.CoreView.{CoreView}
-use Rattle.core_events.specs.declared.view.Note.{Note}
-use Rattle.core_events.specs.declared.view.Note.TheVariants as note
-use Rattle.core_events.specs.declared.view.Phase.TheVariants as phase
-use Rattle.core_events.specs.Words.{bit_in}
-use Rattle.counter_word.specs.Words.{has_help}
-use Rattle.core_events.specs.Views.{note_of, slot_of}
-use Rattle.core_events.specs.Steps.{May, is_last}
-use Rattle.core_events.specs.ShownSteps.{shown_act, ejects, releases, is_ripe_field, on_slot}
+use Rattle.core_law.specs.core_events.declared.act.Act.{Act}
+use Rattle.core_law.specs.core_events.declared.act.Act.TheVariants as act
+use Rattle.core_law.specs.core_events.declared.shape.Shape.{Shape}
+use Rattle.core_law.specs.core_events.declared.view.CoreView.{CoreView}
+use Rattle.core_law.specs.core_events.declared.view.Note.{Note}
+use Rattle.core_law.specs.core_events.declared.view.Note.TheVariants as note
+use Rattle.core_law.specs.core_events.declared.view.Phase.TheVariants as phase
+use Rattle.core_law.specs.core_events.Words.{bit_in}
+use Rattle.core_law.specs.counter_word.Words.{has_help}
+use Rattle.core_law.specs.core_events.Views.{note_of, slot_of}
+use Rattle.core_law.specs.core_events.Steps.{May, is_last}
+use Rattle.core_law.specs.core_events.ShownSteps.{shown_act, ejects, releases, is_ripe_field, on_slot}
 use Rattle.domain_rule.specs.Told.{changed_object}
 
 -- the plain step changes nothing of the object in s

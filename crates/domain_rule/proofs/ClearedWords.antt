@@ -3,22 +3,22 @@ use Rattle.std.proofs.Common.{◌≡◌, ◌≢◌, ⊎_elim, ℕ, ◌+◌, ◌-
 use Rattle.std.specs.Prelude.{slice_index, ◌==◌, if◌then◌else◌, Option, Some, None}
 use Rattle.std.proofs.lemmas.Bool.{cases_eq}
 use Rattle.std.proofs.lemmas.Bool.Decides.{nat_tests}
-use Rattle.plain_state.specs.declared.act.EventPlace.{EventPlace}
-use Rattle.plain_state.specs.declared.act.EventPlace.TheVariants.{Cell, Field, WeakCell, WeakField}
-use Rattle.plain_state.specs.declared.slot.Kind.TheVariants.{Strong}
-use Rattle.plain_state.specs.declared.slot.PlainSlot.{PlainSlot}
-use Rattle.plain_state.specs.declared.slot.SlotId.{SlotId}
-use Rattle.plain_state.specs.declared.slot.Stage.TheVariants.{Live, Ended}
-use Rattle.plain_state.specs.Lists.{times, entry_times}
-use Rattle.plain_state.specs.Places.{HoldsStrongly}
-use Rattle.plain_state.specs.State.{PlainSeat, seat_at, stage_at}
+use Rattle.plain_protocol.specs.plain_state.declared.act.EventPlace.{EventPlace}
+use Rattle.plain_protocol.specs.plain_state.declared.act.EventPlace.TheVariants.{Cell, Field, WeakCell, WeakField}
+use Rattle.plain_protocol.specs.plain_state.declared.slot.Kind.TheVariants.{Strong}
+use Rattle.plain_protocol.specs.plain_state.declared.slot.PlainSlot.{PlainSlot}
+use Rattle.plain_protocol.specs.plain_state.declared.slot.SlotId.{SlotId}
+use Rattle.plain_protocol.specs.plain_state.declared.slot.Stage.TheVariants.{Live, Ended}
+use Rattle.plain_protocol.specs.plain_state.Lists.{times, entry_times}
+use Rattle.plain_protocol.specs.plain_state.Places.{HoldsStrongly}
+use Rattle.plain_protocol.specs.plain_state.State.{PlainSeat, seat_at, stage_at}
 use Rattle.plain_protocol.specs.Calm.{StaysOrNull}
-use Rattle.core_events.specs.declared.act.Act.{Act}
-use Rattle.core_events.specs.declared.shape.Shape.{Shape}
-use Rattle.core_events.specs.declared.view.CoreView.{CoreView}
-use Rattle.core_events.specs.Words.{slot_in, field_at}
-use Rattle.core_events.specs.Shows.{show_slot, shows}
-use Rattle.core_events.specs.Runs.{Core, Enabled, after, view_at}
+use Rattle.core_law.specs.core_events.declared.act.Act.{Act}
+use Rattle.core_law.specs.core_events.declared.shape.Shape.{Shape}
+use Rattle.core_law.specs.core_events.declared.view.CoreView.{CoreView}
+use Rattle.core_law.specs.core_events.Words.{slot_in, field_at}
+use Rattle.core_law.specs.core_events.Shows.{show_slot, shows}
+use Rattle.core_law.specs.core_events.Runs.{Core, Enabled, after, view_at}
 use Rattle.core_law.specs.Sound.{Sound}
 use Rattle.core_law.proofs.Kit.{total_at}
 use Rattle.core_law.proofs.Steady.{named_in_range}

@@ -4,17 +4,17 @@ use Rattle.std.specs.Prelude.{◌↔◌, if◌then◌else◌}
 use Rattle.std.proofs.lemmas.List.{length-set, get_or-set_same, get_or-set_other}
 use Rattle.std.proofs.lemmas.List.Sums.{sum_by-cons}
 use Rattle.std.proofs.lemmas.Bool.{cases_eq}
-use Rattle.core_events.specs.declared.act.Act.{Act}
-use Rattle.core_events.specs.declared.act.Act.TheVariants as act
-use Rattle.core_events.specs.declared.act.Event.{Event}
-use Rattle.core_events.specs.declared.outcome.Outcome.TheVariants as outcome
-use Rattle.core_events.specs.declared.shape.Shape.{Shape}
-use Rattle.core_events.specs.declared.shape.Quota.{Quota}
-use Rattle.core_events.specs.declared.view.CoreView.{CoreView}
-use Rattle.core_events.specs.Counts.{total}
-use Rattle.core_events.specs.Views.{Terms, first_views, no_view}
-use Rattle.core_events.specs.Steps.{moved, noted}
-use Rattle.core_events.specs.Runs.{Core, view_at, found, Enabled, after, start, taken_over, left_behind, History, IsShape, AreTerms}
+use Rattle.core_law.specs.core_events.declared.act.Act.{Act}
+use Rattle.core_law.specs.core_events.declared.act.Act.TheVariants as act
+use Rattle.core_law.specs.core_events.declared.act.Event.{Event}
+use Rattle.core_law.specs.core_events.declared.outcome.Outcome.TheVariants as outcome
+use Rattle.core_law.specs.core_events.declared.shape.Shape.{Shape}
+use Rattle.core_law.specs.core_events.declared.shape.Quota.{Quota}
+use Rattle.core_law.specs.core_events.declared.view.CoreView.{CoreView}
+use Rattle.core_law.specs.core_events.Counts.{total}
+use Rattle.core_law.specs.core_events.Views.{Terms, first_views, no_view}
+use Rattle.core_law.specs.core_events.Steps.{moved, noted}
+use Rattle.core_law.specs.core_events.Runs.{Core, view_at, found, Enabled, after, start, taken_over, left_behind, History, IsShape, AreTerms}
 use Rattle.core_law.specs.Sound.{Sound}
 use Rattle.core_law.proofs.Kit.{total_set}
 use Rattle.core_law.proofs.Starts.{total_none}

@@ -1,22 +1,22 @@
 -- A slot that waits in a seat's dying list stays there until the seat destroys it.
 use Rattle.std.proofs.Common.{◌≡◌, ◌≢◌, ℕ, ◌<◌, ◌≤◌, Bool, true, false, List, [], ◌∷◌, refl, sym, arith}
 use Rattle.std.specs.Prelude.{◌==◌, nat_lt, if◌then◌else◌, Option, Some, None}
-use Rattle.plain_state.specs.declared.slot.Kind.{Kind}
-use Rattle.plain_state.specs.declared.slot.Kind.TheVariants.{Strong, Weak, Disposal}
-use Rattle.plain_state.specs.declared.slot.SlotId.{SlotId}
-use Rattle.plain_state.specs.Lists.{Entry, times}
-use Rattle.plain_state.specs.Places.{place_kind}
-use Rattle.plain_state.specs.Steps.{word_of}
-use Rattle.plain_state.proofs.Kit.{times_push}
-use Rattle.core_events.specs.declared.act.Act.{Act}
-use Rattle.core_events.specs.declared.act.Act.TheVariants as act
-use Rattle.core_events.specs.declared.shape.Shape.{Shape}
-use Rattle.core_events.specs.declared.view.CoreView.{CoreView}
-use Rattle.core_events.specs.declared.view.Phase.{Phase}
-use Rattle.core_events.specs.Words.{bit_in}
-use Rattle.counter_word.specs.Words.{ZERO, has_help, value}
-use Rattle.core_events.specs.Views.{note_of, slot_of}
-use Rattle.core_events.specs.Steps.{changed, ended, exchanged, given_up, is_last, is_valid, paid}
+use Rattle.plain_protocol.specs.plain_state.declared.slot.Kind.{Kind}
+use Rattle.plain_protocol.specs.plain_state.declared.slot.Kind.TheVariants.{Strong, Weak, Disposal}
+use Rattle.plain_protocol.specs.plain_state.declared.slot.SlotId.{SlotId}
+use Rattle.plain_protocol.specs.plain_state.Lists.{Entry, times}
+use Rattle.plain_protocol.specs.plain_state.Places.{place_kind}
+use Rattle.plain_protocol.specs.plain_state.Steps.{word_of}
+use Rattle.plain_protocol.proofs.Below.plain_state.Kit.{times_push}
+use Rattle.core_law.specs.core_events.declared.act.Act.{Act}
+use Rattle.core_law.specs.core_events.declared.act.Act.TheVariants as act
+use Rattle.core_law.specs.core_events.declared.shape.Shape.{Shape}
+use Rattle.core_law.specs.core_events.declared.view.CoreView.{CoreView}
+use Rattle.core_law.specs.core_events.declared.view.Phase.{Phase}
+use Rattle.core_law.specs.core_events.Words.{bit_in}
+use Rattle.core_law.specs.counter_word.Words.{ZERO, has_help, value}
+use Rattle.core_law.specs.core_events.Views.{note_of, slot_of}
+use Rattle.core_law.specs.core_events.Steps.{changed, ended, exchanged, given_up, is_last, is_valid, paid}
 use Rattle.core_law.proofs.Kit.{times_append, one_other, times_without}
 
 module _ (s : SlotId) (v : CoreView) where

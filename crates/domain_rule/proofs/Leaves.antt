@@ -8,29 +8,29 @@ use mathlib.Core.Option.{some}
 use lib.ListN.{get_elem?}
 use Rattle.atomic_table.specs.Table.{State, Joins}
 use Rattle.atomic_table.proofs.Lists.{set_else}
-use Rattle.plain_state.specs.declared.act.PlainAct.TheVariants as plain
-use Rattle.plain_state.specs.declared.act.EventPlace.{EventPlace}
-use Rattle.plain_state.specs.declared.act.EventPlace.TheVariants.{Cell, Field, WeakCell, WeakField}
-use Rattle.plain_state.specs.declared.slot.SlotId.{SlotId}
-use Rattle.plain_state.specs.declared.slot.Kind.{Kind}
-use Rattle.plain_state.specs.declared.slot.Kind.TheVariants.{Strong, Weak, Disposal}
-use Rattle.plain_state.specs.Lists.{entry_times, times}
-use Rattle.plain_state.specs.References.{held_in}
-use Rattle.plain_state.specs.State.{Plain, slot_at}
-use Rattle.plain_state.specs.Steps.{Does}
+use Rattle.plain_protocol.specs.plain_state.declared.act.PlainAct.TheVariants as plain
+use Rattle.plain_protocol.specs.plain_state.declared.act.EventPlace.{EventPlace}
+use Rattle.plain_protocol.specs.plain_state.declared.act.EventPlace.TheVariants.{Cell, Field, WeakCell, WeakField}
+use Rattle.plain_protocol.specs.plain_state.declared.slot.SlotId.{SlotId}
+use Rattle.plain_protocol.specs.plain_state.declared.slot.Kind.{Kind}
+use Rattle.plain_protocol.specs.plain_state.declared.slot.Kind.TheVariants.{Strong, Weak, Disposal}
+use Rattle.plain_protocol.specs.plain_state.Lists.{entry_times, times}
+use Rattle.plain_protocol.specs.plain_state.References.{held_in}
+use Rattle.plain_protocol.specs.plain_state.State.{Plain, slot_at}
+use Rattle.plain_protocol.specs.plain_state.Steps.{Does}
 use Rattle.plain_protocol.specs.Laws.{Meets, KeptByLeave}
 use Rattle.plain_protocol.specs.Owns.{Object, object_of, has_slot, HasSlot}
 use Rattle.plain_protocol.proofs.StepFits.{step_fits}
-use Rattle.core_events.specs.declared.act.Act.TheVariants as act
-use Rattle.core_events.specs.declared.outcome.Outcome.TheVariants as outcome
-use Rattle.core_events.specs.declared.shape.Shape.{Shape}
-use Rattle.core_events.specs.Views.{Terms}
-use Rattle.core_events.specs.declared.view.CoreView.{CoreView}
-use Rattle.core_events.specs.Words.{field_at, weak_field_at}
-use Rattle.core_events.specs.Steps.{CanLeave, noted}
-use Rattle.core_events.specs.Runs.{Core, view_at, taken_over, left_behind, Enabled, after}
-use Rattle.core_events.specs.Shows.{filled, show_seat, shows}
-use Rattle.core_events.specs.Views.{snapshots}
+use Rattle.core_law.specs.core_events.declared.act.Act.TheVariants as act
+use Rattle.core_law.specs.core_events.declared.outcome.Outcome.TheVariants as outcome
+use Rattle.core_law.specs.core_events.declared.shape.Shape.{Shape}
+use Rattle.core_law.specs.core_events.Views.{Terms}
+use Rattle.core_law.specs.core_events.declared.view.CoreView.{CoreView}
+use Rattle.core_law.specs.core_events.Words.{field_at, weak_field_at}
+use Rattle.core_law.specs.core_events.Steps.{CanLeave, noted}
+use Rattle.core_law.specs.core_events.Runs.{Core, view_at, taken_over, left_behind, Enabled, after}
+use Rattle.core_law.specs.core_events.Shows.{filled, show_seat, shows}
+use Rattle.core_law.specs.core_events.Views.{snapshots}
 use Rattle.core_law.specs.Sound.{Sound}
 use Rattle.core_law.proofs.Held.{valid_find}
 use Rattle.core_law.proofs.Joined.{parts, is_j, is_0, is_m}

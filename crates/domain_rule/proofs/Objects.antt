@@ -4,17 +4,17 @@ use Rattle.std.specs.Prelude.{◌==◌, if◌then◌else◌, Option, None}
 use Rattle.std.proofs.lemmas.List.{get_or-set_same, get_or-set_other, set_past}
 use Rattle.std.proofs.lemmas.Bool.{cases_lt}
 use Rattle.std.proofs.lemmas.Bool.Decides.{nat_tests}
-use Rattle.plain_state.specs.declared.act.EventPlace.{EventPlace}
-use Rattle.plain_state.specs.declared.act.EventPlace.TheVariants.{Cell, Field, WeakCell, WeakField}
-use Rattle.plain_state.specs.declared.act.PlainAct.{PlainAct}
-use Rattle.plain_state.specs.declared.act.PlainAct.TheVariants as plain
-use Rattle.plain_state.specs.declared.slot.PlainSlot.{PlainSlot}
-use Rattle.plain_state.specs.declared.slot.SlotId.{SlotId}
-use Rattle.plain_state.specs.Lists.{is_slot}
-use Rattle.plain_state.specs.Places.{with_content, with_field}
-use Rattle.plain_state.specs.State.{Plain, new_slot, slot_at, with_slot}
-use Rattle.plain_state.specs.Steps.{Does, Replaces, Clears}
-use Rattle.plain_state.proofs.Kit.{cases_slot}
+use Rattle.plain_protocol.specs.plain_state.declared.act.EventPlace.{EventPlace}
+use Rattle.plain_protocol.specs.plain_state.declared.act.EventPlace.TheVariants.{Cell, Field, WeakCell, WeakField}
+use Rattle.plain_protocol.specs.plain_state.declared.act.PlainAct.{PlainAct}
+use Rattle.plain_protocol.specs.plain_state.declared.act.PlainAct.TheVariants as plain
+use Rattle.plain_protocol.specs.plain_state.declared.slot.PlainSlot.{PlainSlot}
+use Rattle.plain_protocol.specs.plain_state.declared.slot.SlotId.{SlotId}
+use Rattle.plain_protocol.specs.plain_state.Lists.{is_slot}
+use Rattle.plain_protocol.specs.plain_state.Places.{with_content, with_field}
+use Rattle.plain_protocol.specs.plain_state.State.{Plain, new_slot, slot_at, with_slot}
+use Rattle.plain_protocol.specs.plain_state.Steps.{Does, Replaces, Clears}
+use Rattle.plain_protocol.proofs.Below.plain_state.Kit.{cases_slot}
 use Rattle.plain_protocol.specs.Owns.{Object, object_of}
 use Rattle.domain_rule.specs.Told.{changed_object}
 

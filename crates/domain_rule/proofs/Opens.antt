@@ -7,17 +7,17 @@ use Rattle.std.proofs.lemmas.Bool.Decides.{nat_tests}
 use mathlib.Core.Option.{some, some-injective, some-ne-none}
 use lib.ListN.{get_elem?}
 use Rattle.atomic_table.specs.Table.{opening}
-use Rattle.plain_state.specs.declared.slot.SlotId.{SlotId}
-use Rattle.plain_state.specs.declared.slot.PlainSlot.{PlainSlot}
-use Rattle.plain_state.specs.Fits.{AllFit}
-use Rattle.plain_state.specs.State.{Plain, slot_at, new_slot, empty}
-use Rattle.plain_state.proofs.Start.{every_slot_new}
+use Rattle.plain_protocol.specs.plain_state.declared.slot.SlotId.{SlotId}
+use Rattle.plain_protocol.specs.plain_state.declared.slot.PlainSlot.{PlainSlot}
+use Rattle.plain_protocol.specs.plain_state.Fits.{AllFit}
+use Rattle.plain_protocol.specs.plain_state.State.{Plain, slot_at, new_slot, empty}
+use Rattle.plain_protocol.proofs.Below.plain_state.Start.{every_slot_new}
 use Rattle.plain_protocol.specs.Laws.{Starts}
 use Rattle.plain_protocol.specs.Owns.{object_of}
-use Rattle.core_events.specs.declared.shape.Shape.{Shape}
-use Rattle.core_events.specs.Views.{Terms}
-use Rattle.core_events.specs.Words.{first_words}
-use Rattle.core_events.specs.Runs.{start, IsShape, AreTerms}
+use Rattle.core_law.specs.core_events.declared.shape.Shape.{Shape}
+use Rattle.core_law.specs.core_events.Views.{Terms}
+use Rattle.core_law.specs.core_events.Words.{first_words}
+use Rattle.core_law.specs.core_events.Runs.{start, IsShape, AreTerms}
 use Rattle.core_law.proofs.Starts.{start_sound}
 use Rattle.domain_rule.specs.declared.view.Known.{Known}
 use Rattle.domain_rule.specs.declared.view.Whole.{Whole}

@@ -3,19 +3,19 @@ use Rattle.std.proofs.Common.{◌≡◌, ◌≢◌, ◌⊎◌, inl, inr, ⊎_eli
 use Rattle.std.proofs.lemmas.List.{length-set, get_or-set_other}
 use Rattle.std.proofs.lemmas.Bool.{cases_lt}
 use Rattle.std.proofs.lemmas.Bool.Decides.{nat_tests}
-use Rattle.plain_state.specs.declared.slot.SlotId.{SlotId}
-use Rattle.plain_state.specs.Lists.{times}
-use Rattle.plain_state.specs.References.{held_in}
+use Rattle.plain_protocol.specs.plain_state.declared.slot.SlotId.{SlotId}
+use Rattle.plain_protocol.specs.plain_state.Lists.{times}
+use Rattle.plain_protocol.specs.plain_state.References.{held_in}
 use Rattle.plain_protocol.specs.Owns.{HasSlot}
-use Rattle.core_events.specs.declared.act.Act.{Act}
-use Rattle.core_events.specs.declared.shape.Shape.{Shape}
-use Rattle.core_events.specs.declared.view.CoreView.{CoreView}
-use Rattle.core_events.specs.declared.view.Phase.{Phase}
-use Rattle.core_events.specs.declared.view.Phase.TheVariants as phase
-use Rattle.core_events.specs.Counts.{one, total, naming, baring, filling, in_phase, adds_used}
-use Rattle.core_events.specs.Runs.{Core, Enabled, after, view_at}
-use Rattle.core_events.specs.Shows.{filled, show_seat, show_slot, shows}
-use Rattle.core_events.specs.Views.{held_times, no_view}
+use Rattle.core_law.specs.core_events.declared.act.Act.{Act}
+use Rattle.core_law.specs.core_events.declared.shape.Shape.{Shape}
+use Rattle.core_law.specs.core_events.declared.view.CoreView.{CoreView}
+use Rattle.core_law.specs.core_events.declared.view.Phase.{Phase}
+use Rattle.core_law.specs.core_events.declared.view.Phase.TheVariants as phase
+use Rattle.core_law.specs.core_events.Counts.{one, total, naming, baring, filling, in_phase, adds_used}
+use Rattle.core_law.specs.core_events.Runs.{Core, Enabled, after, view_at}
+use Rattle.core_law.specs.core_events.Shows.{filled, show_seat, show_slot, shows}
+use Rattle.core_law.specs.core_events.Views.{held_times, no_view}
 use Rattle.core_law.specs.Slots.{Numbers, numbers, SlotLaw, free, bare, blank, counted, asked, over, husk}
 use Rattle.core_law.specs.Sound.{Sound}
 use Rattle.core_law.proofs.Held.{held_named, held_taken}

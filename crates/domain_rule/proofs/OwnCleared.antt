@@ -3,19 +3,19 @@ use Rattle.std.proofs.Common.{◌≡◌, ◌≢◌, ◌⊎◌, inl, inr, ⊎_eli
 use Rattle.std.specs.Prelude.{slice_index, ◌==◌, if◌then◌else◌, Some, None}
 use Rattle.std.proofs.lemmas.List.{get_or-set_same}
 use Rattle.std.proofs.lemmas.Bool.Decides.{nat_tests}
-use Rattle.plain_state.specs.declared.act.EventPlace.{EventPlace}
-use Rattle.plain_state.specs.declared.act.EventPlace.TheVariants.{Cell, Field, WeakCell, WeakField}
-use Rattle.plain_state.specs.declared.slot.SlotId.{SlotId}
-use Rattle.plain_state.specs.Lists.{times}
-use Rattle.core_events.specs.declared.act.Act.{Act}
-use Rattle.core_events.specs.declared.act.Act.TheVariants as act
-use Rattle.core_events.specs.declared.shape.Shape.{Shape}
-use Rattle.core_events.specs.declared.view.CoreView.{CoreView}
-use Rattle.core_events.specs.Good.{SeatLaw}
-use Rattle.core_events.specs.Words.{place_at}
-use Rattle.core_events.specs.ShownSteps.{is_ripe_field}
-use Rattle.core_events.specs.Steps.{May, moved}
-use Rattle.core_events.specs.Runs.{Core, Enabled, after, view_at}
+use Rattle.plain_protocol.specs.plain_state.declared.act.EventPlace.{EventPlace}
+use Rattle.plain_protocol.specs.plain_state.declared.act.EventPlace.TheVariants.{Cell, Field, WeakCell, WeakField}
+use Rattle.plain_protocol.specs.plain_state.declared.slot.SlotId.{SlotId}
+use Rattle.plain_protocol.specs.plain_state.Lists.{times}
+use Rattle.core_law.specs.core_events.declared.act.Act.{Act}
+use Rattle.core_law.specs.core_events.declared.act.Act.TheVariants as act
+use Rattle.core_law.specs.core_events.declared.shape.Shape.{Shape}
+use Rattle.core_law.specs.core_events.declared.view.CoreView.{CoreView}
+use Rattle.core_law.specs.core_events.Good.{SeatLaw}
+use Rattle.core_law.specs.core_events.Words.{place_at}
+use Rattle.core_law.specs.core_events.ShownSteps.{is_ripe_field}
+use Rattle.core_law.specs.core_events.Steps.{May, moved}
+use Rattle.core_law.specs.core_events.Runs.{Core, Enabled, after, view_at}
 use Rattle.core_law.specs.Sound.{Sound}
 use Rattle.core_law.proofs.InRange.{place_in}
 use Rattle.domain_rule.specs.Rule.{IsCleared}

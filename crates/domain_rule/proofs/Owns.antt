@@ -6,15 +6,15 @@ use Rattle.std.specs.Option.{option_map, is_some}
 use Rattle.std.proofs.lemmas.Bool.{cases_Bool, cases_lt}
 use Rattle.std.proofs.lemmas.Bool.Decides.{nat_tests}
 use Rattle.std.proofs.Math.ListN.{get_or-map}
-use Rattle.plain_state.specs.declared.slot.PlainSlot.{PlainSlot}
-use Rattle.plain_state.specs.declared.slot.SlotId.{SlotId}
-use Rattle.plain_state.specs.State.{Plain, PlainSeat, new_slot, seat_at, slot_at}
+use Rattle.plain_protocol.specs.plain_state.declared.slot.PlainSlot.{PlainSlot}
+use Rattle.plain_protocol.specs.plain_state.declared.slot.SlotId.{SlotId}
+use Rattle.plain_protocol.specs.plain_state.State.{Plain, PlainSeat, new_slot, seat_at, slot_at}
 use Rattle.plain_protocol.specs.Owns.{Object, OwnPart, has_slot, is_alone, object_of, own_part}
-use Rattle.core_events.specs.declared.shape.Shape.{Shape}
-use Rattle.core_events.specs.declared.view.CoreView.{CoreView}
-use Rattle.core_events.specs.Runs.{Core, view_at}
-use Rattle.core_events.specs.Shows.{show_seat, shows}
-use Rattle.core_events.specs.Views.{no_view}
+use Rattle.core_law.specs.core_events.declared.shape.Shape.{Shape}
+use Rattle.core_law.specs.core_events.declared.view.CoreView.{CoreView}
+use Rattle.core_law.specs.core_events.Runs.{Core, view_at}
+use Rattle.core_law.specs.core_events.Shows.{show_seat, shows}
+use Rattle.core_law.specs.core_events.Views.{no_view}
 use Rattle.core_law.specs.Sound.{Sound}
 use Rattle.core_law.proofs.Bridge.{shown_past, shown_seat, shown_slot}
 use Rattle.domain_rule.specs.declared.view.Known.{Known}

@@ -1,14 +1,14 @@
 -- What holds of a seat by itself holds as it is opened, and of seat 0 after a leave.
 use Rattle.std.proofs.Common.{ℕ, ◌<◌, arith}
-use Rattle.core_events.specs.declared.act.Act.TheVariants as act
-use Rattle.core_events.specs.declared.outcome.Outcome.TheVariants as outcome
-use Rattle.core_events.specs.declared.shape.Shape.{Shape}
-use Rattle.core_events.specs.Views.{Terms}
-use Rattle.core_events.specs.declared.view.CoreView.{CoreView}
-use Rattle.core_events.specs.Good.{SeatLaw}
-use Rattle.core_events.specs.Runs.{IsShape, AreTerms, taken_over}
-use Rattle.core_events.specs.Steps.{CanLeave, noted}
-use Rattle.core_events.specs.Views.{first_view}
+use Rattle.core_law.specs.core_events.declared.act.Act.TheVariants as act
+use Rattle.core_law.specs.core_events.declared.outcome.Outcome.TheVariants as outcome
+use Rattle.core_law.specs.core_events.declared.shape.Shape.{Shape}
+use Rattle.core_law.specs.core_events.Views.{Terms}
+use Rattle.core_law.specs.core_events.declared.view.CoreView.{CoreView}
+use Rattle.core_law.specs.core_events.Good.{SeatLaw}
+use Rattle.core_law.specs.core_events.Runs.{IsShape, AreTerms, taken_over}
+use Rattle.core_law.specs.core_events.Steps.{CanLeave, noted}
+use Rattle.core_law.specs.core_events.Views.{first_view}
 use Rattle.core_law.proofs.Leaves.{taken_law}
 use Rattle.core_law.proofs.Starts.{first_seat}
 use Rattle.domain_rule.specs.Views.{quota_at}

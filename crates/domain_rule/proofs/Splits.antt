@@ -7,15 +7,15 @@ use mathlib.Core.Option.{some, some-injective}
 use lib.ListN.{get_elem?}
 use Rattle.atomic_table.specs.Table.{State, Splits}
 use Rattle.atomic_table.proofs.Lists.{at_longer, set_here}
-use Rattle.plain_state.specs.declared.slot.SlotId.{SlotId}
-use Rattle.plain_state.specs.Lists.{times, entry_times}
-use Rattle.plain_state.specs.References.{held_in}
-use Rattle.plain_state.specs.State.{Plain, new_seat}
+use Rattle.plain_protocol.specs.plain_state.declared.slot.SlotId.{SlotId}
+use Rattle.plain_protocol.specs.plain_state.Lists.{times, entry_times}
+use Rattle.plain_protocol.specs.plain_state.References.{held_in}
+use Rattle.plain_protocol.specs.plain_state.State.{Plain, new_seat}
 use Rattle.plain_protocol.specs.Owns.{HasSlot}
-use Rattle.core_events.specs.declared.shape.Shape.{Shape}
-use Rattle.core_events.specs.Views.{Terms}
-use Rattle.core_events.specs.Runs.{Core, start}
-use Rattle.core_events.specs.Shows.{shows}
+use Rattle.core_law.specs.core_events.declared.shape.Shape.{Shape}
+use Rattle.core_law.specs.core_events.Views.{Terms}
+use Rattle.core_law.specs.core_events.Runs.{Core, start}
+use Rattle.core_law.specs.core_events.Shows.{shows}
 use Rattle.domain_rule.specs.declared.view.Whole.{Whole}
 use Rattle.domain_rule.specs.declared.view.SeatView.{SeatView}
 use Rattle.domain_rule.specs.Opening.{opened_view, opened_more}

@@ -1,19 +1,19 @@
 -- Where nothing has happened the core shows the state with nothing in it.
 use Rattle.std.proofs.Common.{◌≡◌, ℕ, zero, suc, ◌+◌, ◌<◌, List, [], ◌∷◌, length, map, replicate, refl, ap, ◌∙◌, arith}
 use Rattle.std.specs.Prelude.{slice_index}
-use Rattle.plain_state.specs.declared.slot.SlotId.{SlotId}
-use Rattle.plain_state.specs.declared.slot.Stage.TheVariants.{Free}
-use Rattle.plain_state.specs.State.{PlainSeat, new_seat, new_slot, empty}
-use Rattle.core_events.specs.declared.shape.Shape.{Shape}
-use Rattle.core_events.specs.declared.shape.Quota.{Quota}
-use Rattle.core_events.specs.declared.view.CoreView.{CoreView}
-use Rattle.core_events.specs.Words.{each_from, slot_in, slot_at, cell_at, weak_cell_at, payload_at, first_words}
-use Rattle.counter_word.specs.Words.{has_zero}
-use Rattle.core_events.specs.Counts.{Signs, stage_of}
-use Rattle.core_events.specs.Views.{Terms, first_view, first_views}
-use Rattle.core_events.specs.Runs.{start, view_at, AreTerms}
-use Rattle.core_events.specs.Shows.{shows, show_seat, show_slot}
-use Rattle.plain_state.specs.Lists.{times}
+use Rattle.plain_protocol.specs.plain_state.declared.slot.SlotId.{SlotId}
+use Rattle.plain_protocol.specs.plain_state.declared.slot.Stage.TheVariants.{Free}
+use Rattle.plain_protocol.specs.plain_state.State.{PlainSeat, new_seat, new_slot, empty}
+use Rattle.core_law.specs.core_events.declared.shape.Shape.{Shape}
+use Rattle.core_law.specs.core_events.declared.shape.Quota.{Quota}
+use Rattle.core_law.specs.core_events.declared.view.CoreView.{CoreView}
+use Rattle.core_law.specs.core_events.Words.{each_from, slot_in, slot_at, cell_at, weak_cell_at, payload_at, first_words}
+use Rattle.core_law.specs.counter_word.Words.{has_zero}
+use Rattle.core_law.specs.core_events.Counts.{Signs, stage_of}
+use Rattle.core_law.specs.core_events.Views.{Terms, first_view, first_views}
+use Rattle.core_law.specs.core_events.Runs.{start, view_at, AreTerms}
+use Rattle.core_law.specs.core_events.Shows.{shows, show_seat, show_slot}
+use Rattle.plain_protocol.specs.plain_state.Lists.{times}
 use Rattle.core_law.proofs.Kit.{times_none}
 use Rattle.core_law.proofs.FirstWords.{low_at, strong_first, bit_first, ticket_first, field_first, field0, field1, weak_field}
 use Rattle.core_law.proofs.Starts.{first_at, total_none}

@@ -3,17 +3,17 @@ use Rattle.std.proofs.Common.{◌≡◌, ◌≢◌, ℕ, ◌<◌, true, false, L
 use Rattle.std.specs.Prelude.{Option, Some, None}
 use Rattle.std.specs.Option.{option_map}
 use Rattle.std.proofs.lemmas.List.{length-set, get_or-set_same, get_or-set_other}
-use Rattle.plain_state.specs.declared.act.EventPlace.TheVariants.{Field, WeakField}
-use Rattle.plain_state.specs.State.{PlainSeat}
+use Rattle.plain_protocol.specs.plain_state.declared.act.EventPlace.TheVariants.{Field, WeakField}
+use Rattle.plain_protocol.specs.plain_state.State.{PlainSeat}
 use Rattle.plain_protocol.specs.Owns.{HasSlot}
-use Rattle.core_events.specs.declared.act.Act.{Act}
-use Rattle.core_events.specs.declared.act.Act.TheVariants as act
-use Rattle.core_events.specs.declared.shape.Shape.{Shape}
-use Rattle.core_events.specs.declared.view.CoreView.{CoreView}
-use Rattle.core_events.specs.Runs.{Core, Enabled, RestMay, after, found, view_at}
-use Rattle.core_events.specs.Shows.{show_seat, shows}
-use Rattle.core_events.specs.Steps.{moved}
-use Rattle.core_events.specs.Views.{no_view}
+use Rattle.core_law.specs.core_events.declared.act.Act.{Act}
+use Rattle.core_law.specs.core_events.declared.act.Act.TheVariants as act
+use Rattle.core_law.specs.core_events.declared.shape.Shape.{Shape}
+use Rattle.core_law.specs.core_events.declared.view.CoreView.{CoreView}
+use Rattle.core_law.specs.core_events.Runs.{Core, Enabled, RestMay, after, found, view_at}
+use Rattle.core_law.specs.core_events.Shows.{show_seat, shows}
+use Rattle.core_law.specs.core_events.Steps.{moved}
+use Rattle.core_law.specs.core_events.Views.{no_view}
 use Rattle.core_law.specs.Sound.{Sound}
 use Rattle.core_law.proofs.Always.{step_keeps}
 use Rattle.core_law.proofs.Trails.{views_plain}

@@ -7,27 +7,27 @@ use mathlib.Core.Option.{some}
 use lib.ListN.{get_elem?}
 use Rattle.atomic_table.specs.Table.{Allows, Me, State, keeps, stepped}
 use Rattle.atomic_table.proofs.Lists.{at_set}
-use Rattle.plain_state.specs.declared.act.PlainAct.{PlainAct}
-use Rattle.plain_state.specs.declared.act.PlainAct.TheVariants as plain
-use Rattle.plain_state.specs.declared.slot.SlotId.{SlotId}
-use Rattle.plain_state.specs.Fits.{AllFit}
-use Rattle.plain_state.specs.State.{Plain, slot_at}
-use Rattle.plain_state.specs.Steps.{Does}
+use Rattle.plain_protocol.specs.plain_state.declared.act.PlainAct.{PlainAct}
+use Rattle.plain_protocol.specs.plain_state.declared.act.PlainAct.TheVariants as plain
+use Rattle.plain_protocol.specs.plain_state.declared.slot.SlotId.{SlotId}
+use Rattle.plain_protocol.specs.plain_state.Fits.{AllFit}
+use Rattle.plain_protocol.specs.plain_state.State.{Plain, slot_at}
+use Rattle.plain_protocol.specs.plain_state.Steps.{Does}
 use Rattle.plain_protocol.specs.Laws.{Keeps, Meets}
 use Rattle.plain_protocol.specs.Owns.{HasSlot, Object, OwnPart, own_part}
 use Rattle.plain_protocol.proofs.StepFits.{step_fits}
-use Rattle.core_events.specs.declared.act.Act.{Act}
-use Rattle.core_events.specs.declared.act.Act.TheVariants as act
-use Rattle.core_events.specs.declared.shape.Shape.{Shape}
-use Rattle.core_events.specs.Views.{Terms}
-use Rattle.core_events.specs.declared.view.CoreView.{CoreView}
-use Rattle.core_events.specs.declared.view.Phase.TheVariants as phase
-use Rattle.core_events.specs.Good.{SeatLaw}
-use Rattle.core_events.specs.Runs.{Core, Enabled, after, found, view_at}
-use Rattle.core_events.specs.Shows.{show_seat, shows}
-use Rattle.core_events.specs.ShownSteps.{shown_act, shown_number}
-use Rattle.core_events.specs.Steps.{May, next, place}
-use Rattle.core_events.specs.Views.{slot_of}
+use Rattle.core_law.specs.core_events.declared.act.Act.{Act}
+use Rattle.core_law.specs.core_events.declared.act.Act.TheVariants as act
+use Rattle.core_law.specs.core_events.declared.shape.Shape.{Shape}
+use Rattle.core_law.specs.core_events.Views.{Terms}
+use Rattle.core_law.specs.core_events.declared.view.CoreView.{CoreView}
+use Rattle.core_law.specs.core_events.declared.view.Phase.TheVariants as phase
+use Rattle.core_law.specs.core_events.Good.{SeatLaw}
+use Rattle.core_law.specs.core_events.Runs.{Core, Enabled, after, found, view_at}
+use Rattle.core_law.specs.core_events.Shows.{show_seat, shows}
+use Rattle.core_law.specs.core_events.ShownSteps.{shown_act, shown_number}
+use Rattle.core_law.specs.core_events.Steps.{May, next, place}
+use Rattle.core_law.specs.core_events.Views.{slot_of}
 use Rattle.core_law.specs.Sound.{Sound}
 use Rattle.core_law.proofs.Always.{step_keeps}
 use Rattle.core_law.proofs.Trails.{changed_trail}

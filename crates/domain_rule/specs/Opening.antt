@@ -1,17 +1,17 @@
 -- How a domain comes to its seats, and how a seat leaves it.
 use Rattle.std.specs.Prelude.{ℕ, ◌+◌, ◌==◌, true, false, List, [], ◌++◌, Some, None, if◌then◌else◌}
-use Rattle.plain_state.specs.declared.slot.SlotId.{SlotId}
-use Rattle.plain_state.specs.State.{empty}
+use Rattle.plain_protocol.specs.plain_state.declared.slot.SlotId.{SlotId}
+use Rattle.plain_protocol.specs.plain_state.State.{empty}
 use Rattle.plain_protocol.specs.Owns.{Object, has_slot}
-use Rattle.core_events.specs.declared.act.Act.TheVariants as act
-use Rattle.core_events.specs.declared.outcome.Outcome.TheVariants as outcome
-use Rattle.core_events.specs.declared.shape.Shape.{Shape}
-use Rattle.core_events.specs.Views.{Terms}
-use Rattle.core_events.specs.Runs.{start, taken_over}
-use Rattle.core_events.specs.Shows.{show_seat}
-use Rattle.core_events.specs.Words.{each_from}
-use Rattle.core_events.specs.Steps.{noted}
-use Rattle.core_events.specs.Views.{first_view, no_view}
+use Rattle.core_law.specs.core_events.declared.act.Act.TheVariants as act
+use Rattle.core_law.specs.core_events.declared.outcome.Outcome.TheVariants as outcome
+use Rattle.core_law.specs.core_events.declared.shape.Shape.{Shape}
+use Rattle.core_law.specs.core_events.Views.{Terms}
+use Rattle.core_law.specs.core_events.Runs.{start, taken_over}
+use Rattle.core_law.specs.core_events.Shows.{show_seat}
+use Rattle.core_law.specs.core_events.Words.{each_from}
+use Rattle.core_law.specs.core_events.Steps.{noted}
+use Rattle.core_law.specs.core_events.Views.{first_view, no_view}
 use Rattle.domain_rule.specs.declared.view.Known.{Known}
 use Rattle.domain_rule.specs.declared.view.SeatView.{SeatView}
 use Rattle.domain_rule.specs.Views.{known_of, object_in, objects_of, quota_at, whole_of}

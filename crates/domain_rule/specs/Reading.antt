@@ -1,11 +1,11 @@
 -- What a seat is told where it reads a word, which is no event.
 use Rattle.std.specs.Prelude.{ℕ, ◌≡◌, ◌↔◌, List, slice_index, IsSome}
-use Rattle.plain_state.specs.Fits.{AllFit}
-use Rattle.core_events.specs.declared.act.Event.{Event}
-use Rattle.core_events.specs.declared.shape.Shape.{Shape}
-use Rattle.core_events.specs.Views.{Terms}
-use Rattle.core_events.specs.Runs.{AreTerms, Core, History, IsShape}
-use Rattle.core_events.specs.Shows.{shows}
+use Rattle.plain_protocol.specs.plain_state.Fits.{AllFit}
+use Rattle.core_law.specs.core_events.declared.act.Event.{Event}
+use Rattle.core_law.specs.core_events.declared.shape.Shape.{Shape}
+use Rattle.core_law.specs.core_events.Views.{Terms}
+use Rattle.core_law.specs.core_events.Runs.{AreTerms, Core, History, IsShape}
+use Rattle.core_law.specs.core_events.Shows.{shows}
 use Rattle.domain_rule.specs.declared.view.SeatView.{SeatView}
 use Rattle.domain_rule.specs.Rule.{IsTrueOf}
 use Rattle.domain_rule.specs.Views.{IsAlone}

@@ -1,15 +1,15 @@
 -- What a seat of a domain has by its view: the objects of its slots, its own part of the plain state.
 use Rattle.std.specs.Prelude.{ℕ, ◌≡◌, ◌⊎◌, ◌+◌, Bool, false, List, [], ◌∷◌, length, map, slice_index_or, Some, None, IsSome, if◌then◌else◌}
 use Rattle.std.specs.Option.{option_map}
-use Rattle.plain_state.specs.declared.act.EventPlace.{EventPlace}
-use Rattle.plain_state.specs.declared.act.EventPlace.TheVariants.{Cell, Field, WeakCell, WeakField}
-use Rattle.plain_state.specs.declared.slot.SlotId.{SlotId}
-use Rattle.plain_state.specs.Lists.{is_slot}
-use Rattle.plain_state.specs.State.{Plain, no_payload}
+use Rattle.plain_protocol.specs.plain_state.declared.act.EventPlace.{EventPlace}
+use Rattle.plain_protocol.specs.plain_state.declared.act.EventPlace.TheVariants.{Cell, Field, WeakCell, WeakField}
+use Rattle.plain_protocol.specs.plain_state.declared.slot.SlotId.{SlotId}
+use Rattle.plain_protocol.specs.plain_state.Lists.{is_slot}
+use Rattle.plain_protocol.specs.plain_state.State.{Plain, no_payload}
 use Rattle.plain_protocol.specs.Owns.{Object, OwnPart, object_of, has_slot}
-use Rattle.core_events.specs.declared.shape.Quota.{Quota}
-use Rattle.core_events.specs.Runs.{Core}
-use Rattle.core_events.specs.Shows.{show_seat, shows}
+use Rattle.core_law.specs.core_events.declared.shape.Quota.{Quota}
+use Rattle.core_law.specs.core_events.Runs.{Core}
+use Rattle.core_law.specs.core_events.Shows.{show_seat, shows}
 use Rattle.domain_rule.specs.declared.view.Known.{Known}
 use Rattle.domain_rule.specs.declared.view.Whole.{Whole}
 use Rattle.domain_rule.specs.declared.view.SeatView.{SeatView}

@@ -4,7 +4,7 @@ ghost use Rattle.domain_rule.specs.Opening.{first_of};
 
 use crate::view::SeatView;
 use atomic_table::TableRule;
-use core_events::{Quota, Shape};
+use core_law::{Quota, Shape};
 use plain_protocol::Protocol;
 use std::marker::PhantomData;
 

@@ -1,11 +1,11 @@
 //! Each event that a seat's own view allows keeps the rule.
 ghost use Rattle.std.specs.Prelude.{ℕ, ◌≡◌, false, List};
 ghost use Rattle.atomic_table.specs.Table.{Allows, Me};
-ghost use Rattle.core_events.specs.declared.act.Act.{Act};
-ghost use Rattle.core_events.specs.declared.shape.Shape.{Shape};
-ghost use Rattle.core_events.specs.Views.{Terms};
-ghost use Rattle.core_events.specs.ShownSteps.{shown_act};
-ghost use Rattle.core_events.specs.Steps.{May, next, place};
+ghost use Rattle.core_law.specs.core_events.declared.act.Act.{Act};
+ghost use Rattle.core_law.specs.core_events.declared.shape.Shape.{Shape};
+ghost use Rattle.core_law.specs.core_events.Views.{Terms};
+ghost use Rattle.core_law.specs.core_events.ShownSteps.{shown_act};
+ghost use Rattle.core_law.specs.core_events.Steps.{May, next, place};
 ghost use Rattle.domain_rule.specs.declared.view.SeatView.{SeatView};
 ghost use Rattle.domain_rule.specs.Rule.{Kept};
 ghost use Rattle.domain_rule.specs.Told.{FitsStart, IsOwn, Told};

@@ -17,6 +17,7 @@ mod view;
 
 pub use charter::{Charter, DomainRule};
 pub use laws::step_keeps;
+pub use plain_protocol::{AnyStep, Deed, NoLaw, Protocol, Still};
 pub use seats::{
     joined_seat_law, leave_keeps, opened_seat_law, opening_keeps, reading_keeps, split_keeps,
 };

@@ -1,16 +1,16 @@
 //! How seats come and go keeps the rule.
 ghost use Rattle.std.specs.Prelude.{ℕ, ◌≡◌, ◌<◌, false, List, []};
 ghost use Rattle.atomic_table.specs.Table.{Allows, Joins, Me, Splits, opening};
-ghost use Rattle.core_events.specs.declared.act.Act.TheVariants as act;
-ghost use Rattle.core_events.specs.declared.outcome.Outcome.TheVariants as outcome;
-ghost use Rattle.core_events.specs.declared.shape.Shape.{Shape};
-ghost use Rattle.core_events.specs.Views.{Terms};
-ghost use Rattle.core_events.specs.declared.view.CoreView.{CoreView};
-ghost use Rattle.core_events.specs.Good.{SeatLaw};
-ghost use Rattle.core_events.specs.Runs.{AreTerms, IsShape, taken_over};
-ghost use Rattle.core_events.specs.Steps.{CanLeave, noted};
-ghost use Rattle.core_events.specs.Views.{first_view};
-ghost use Rattle.core_events.specs.Words.{first_words};
+ghost use Rattle.core_law.specs.core_events.declared.act.Act.TheVariants as act;
+ghost use Rattle.core_law.specs.core_events.declared.outcome.Outcome.TheVariants as outcome;
+ghost use Rattle.core_law.specs.core_events.declared.shape.Shape.{Shape};
+ghost use Rattle.core_law.specs.core_events.Views.{Terms};
+ghost use Rattle.core_law.specs.core_events.declared.view.CoreView.{CoreView};
+ghost use Rattle.core_law.specs.core_events.Good.{SeatLaw};
+ghost use Rattle.core_law.specs.core_events.Runs.{AreTerms, IsShape, taken_over};
+ghost use Rattle.core_law.specs.core_events.Steps.{CanLeave, noted};
+ghost use Rattle.core_law.specs.core_events.Views.{first_view};
+ghost use Rattle.core_law.specs.core_events.Words.{first_words};
 ghost use Rattle.domain_rule.specs.declared.view.SeatView.{SeatView};
 ghost use Rattle.domain_rule.specs.Opening.{first_of, gone_view, joined_view, opened_more, opened_view};
 ghost use Rattle.domain_rule.specs.Reading.{HasRead};

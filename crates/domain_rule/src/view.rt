@@ -1,5 +1,5 @@
 //! What a seat of a domain knows, as data that stands in contracts alone.
-use core_events::{CoreView, EventPlace};
+use core_law::{CoreView, EventPlace};
 use std::collections::LinkedList;
 
 /// What stays of an object while a seat has its slot.

@@ -1,12 +1,12 @@
 -- The rest of a protocol accepts what the deeds of a doubly linked queue make of a view.
 use Rattle.std.proofs.Common.{◌≡◌, Bool, true, false, refl}
 use Rattle.std.specs.Prelude.{cond, ◌==◌}
-use Rattle.part_calls.specs.Parts.{AcceptsAll}
-use Rattle.queue_law.specs.declared.view.Item.{Item}
-use Rattle.queue_law.specs.declared.view.View.{View}
-use Rattle.queue_law.specs.Lessons.{ended_next, set_next}
-use Rattle.queue_law.specs.Pushes.{carried_item, exchange_next, flying_view, helped_view}
-use Rattle.queue_protocol.specs.Pushable.{AcceptsKept, AcceptsPush}
+use Rattle.weak_part_calls.specs.part_calls.Parts.{AcceptsAll}
+use Rattle.linked_queue.specs.queue_law.declared.view.Item.{Item}
+use Rattle.linked_queue.specs.queue_law.declared.view.View.{View}
+use Rattle.linked_queue.specs.queue_law.Lessons.{ended_next, set_next}
+use Rattle.linked_queue.specs.queue_law.Pushes.{carried_item, exchange_next, flying_view, helped_view}
+use Rattle.linked_queue.specs.queue_protocol.Pushable.{AcceptsKept, AcceptsPush}
 use Rattle.linked_queue.proofs.Accepting.{KeepsPushed}
 
 helped_kept : (b : Bool) (v : View) → (cond b (helped_view v) v).pushed ≡ v.pushed

@@ -1,29 +1,29 @@
 -- The exchange of the tail cell, and the link that follows it: what their deeds ask, and what they leave.
 use Rattle.std.proofs.Common.{◌≡◌, ℕ, ◌+◌, ◌-◌, ◌<◌, Bool, true, false, [], ◌∷◌, ◌++◌, refl, ap, sym, ◌∙◌, arith, List}
 use Rattle.std.specs.Prelude.{◌==◌, Some, None, cond, if◌then◌else◌}
-use Rattle.plain_state.specs.declared.act.EventPlace.TheVariants.{Cell, Field}
-use Rattle.plain_state.specs.declared.act.PlainAct.TheVariants as plain
-use Rattle.plain_state.specs.declared.slot.SlotId.{SlotId}
-use Rattle.plain_state.specs.Lists.{times}
-use Rattle.plain_protocol.specs.Owns.{Object}
-use Rattle.core_events.specs.declared.act.Act.TheVariants as act
-use Rattle.core_events.specs.declared.outcome.Outcome.TheVariants as outcome
-use Rattle.core_events.specs.declared.view.CoreView.{CoreView}
-use Rattle.core_events.specs.Views.{without}
-use Rattle.core_events.specs.Words.{slot_in}
-use Rattle.domain_rule.specs.Views.{object_in, own_of}
-use Rattle.acquire_retire.specs.Calls.{IsReady, IsSameView, same_view}
-use Rattle.acquire_retire.specs.Domains.{DomainState}
-use Rattle.acquire_retire.specs.Seats.{SeatState}
-use Rattle.control_word.specs.Calls.{DropsStrong, GainsStrong, without_strong}
-use Rattle.control_word.specs.Moves.{KnowsStill}
-use Rattle.retiring_stores.specs.Exchanging.{LosesTo, Replaces}
-use Rattle.queue_law.specs.declared.view.Form.TheVariants.{Double}
-use Rattle.queue_law.specs.declared.view.View.{View}
-use Rattle.queue_law.specs.Lessons.{TellsNothing}
-use Rattle.queue_law.specs.Pushes.{ExchangeReady, LandReady, exchange_next, flying_view}
-use Rattle.queue_law.specs.Words.{life_in}
-use Rattle.queue_protocol.specs.declared.law.QueueLaw.{QueueLaw}
+use Rattle.weak_part_calls.specs.plain_state.declared.act.EventPlace.TheVariants.{Cell, Field}
+use Rattle.weak_part_calls.specs.plain_state.declared.act.PlainAct.TheVariants as plain
+use Rattle.weak_part_calls.specs.plain_state.declared.slot.SlotId.{SlotId}
+use Rattle.weak_part_calls.specs.plain_state.Lists.{times}
+use Rattle.weak_part_calls.specs.plain_protocol.Owns.{Object}
+use Rattle.weak_part_calls.specs.core_events.declared.act.Act.TheVariants as act
+use Rattle.weak_part_calls.specs.core_events.declared.outcome.Outcome.TheVariants as outcome
+use Rattle.weak_part_calls.specs.core_events.declared.view.CoreView.{CoreView}
+use Rattle.weak_part_calls.specs.core_events.Views.{without}
+use Rattle.weak_part_calls.specs.core_events.Words.{slot_in}
+use Rattle.weak_part_calls.specs.domain_rule.Views.{object_in, own_of}
+use Rattle.weak_part_calls.specs.acquire_retire.Calls.{IsReady, IsSameView, same_view}
+use Rattle.weak_part_calls.specs.acquire_retire.Domains.{DomainState}
+use Rattle.weak_part_calls.specs.acquire_retire.Seats.{SeatState}
+use Rattle.weak_part_calls.specs.control_word.Calls.{DropsStrong, GainsStrong, without_strong}
+use Rattle.weak_part_calls.specs.control_word.Moves.{KnowsStill}
+use Rattle.weak_part_calls.specs.retiring_stores.Exchanging.{LosesTo, Replaces}
+use Rattle.linked_queue.specs.queue_law.declared.view.Form.TheVariants.{Double}
+use Rattle.linked_queue.specs.queue_law.declared.view.View.{View}
+use Rattle.linked_queue.specs.queue_law.Lessons.{TellsNothing}
+use Rattle.linked_queue.specs.queue_law.Pushes.{ExchangeReady, LandReady, exchange_next, flying_view}
+use Rattle.linked_queue.specs.queue_law.Words.{life_in}
+use Rattle.linked_queue.specs.queue_protocol.declared.law.QueueLaw.{QueueLaw}
 use Rattle.linked_queue.specs.Leaving.{Leaves}
 use Rattle.linked_queue.specs.Queues.{IsAttached, ends_of}
 use Rattle.linked_queue.proofs.Leavings.{copy_leaves, drop_leaves, leaves_same}

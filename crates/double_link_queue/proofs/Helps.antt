@@ -1,27 +1,27 @@
 -- The link behind the node before: what its deeds ask, and what they leave.
 use Rattle.std.proofs.Common.{◌≡◌, ℕ, ◌<◌, Bool, true, false, [], ◌∷◌, ◌++◌, inl, refl, ap, sym, ◌∙◌, subst, arith, List}
 use Rattle.std.specs.Prelude.{Option, Some, None, cond, ◌==◌}
-use Rattle.plain_state.specs.declared.act.EventPlace.TheVariants.{Field}
-use Rattle.plain_state.specs.declared.slot.SlotId.{SlotId}
-use Rattle.plain_state.specs.Lists.{times}
-use Rattle.plain_protocol.specs.Owns.{Object}
-use Rattle.core_events.specs.declared.act.Act.TheVariants as act
-use Rattle.core_events.specs.declared.outcome.Outcome.{Outcome}
-use Rattle.core_events.specs.declared.outcome.Outcome.TheVariants as outcome
-use Rattle.core_events.specs.declared.view.CoreView.{CoreView}
-use Rattle.core_events.specs.Views.{without}
-use Rattle.core_events.specs.Words.{slot_in}
-use Rattle.core_law.proofs.Kit.{times_push}
-use Rattle.acquire_retire.specs.Calls.{IsReady, Steps}
-use Rattle.acquire_retire.specs.Collecting.{move}
-use Rattle.acquire_retire.specs.Domains.{DomainState}
-use Rattle.acquire_retire.specs.Seats.{SeatState}
-use Rattle.control_word.specs.Moves.{Becomes, KnowsStill}
-use Rattle.queue_law.specs.declared.view.Form.TheVariants.{Double}
-use Rattle.queue_law.specs.declared.view.View.{View}
-use Rattle.queue_law.specs.Lessons.{set_next}
-use Rattle.queue_law.specs.Pushes.{HelpReady, helped_view}
-use Rattle.queue_protocol.specs.declared.law.QueueLaw.{QueueLaw}
+use Rattle.weak_part_calls.specs.plain_state.declared.act.EventPlace.TheVariants.{Field}
+use Rattle.weak_part_calls.specs.plain_state.declared.slot.SlotId.{SlotId}
+use Rattle.weak_part_calls.specs.plain_state.Lists.{times}
+use Rattle.weak_part_calls.specs.plain_protocol.Owns.{Object}
+use Rattle.weak_part_calls.specs.core_events.declared.act.Act.TheVariants as act
+use Rattle.weak_part_calls.specs.core_events.declared.outcome.Outcome.{Outcome}
+use Rattle.weak_part_calls.specs.core_events.declared.outcome.Outcome.TheVariants as outcome
+use Rattle.weak_part_calls.specs.core_events.declared.view.CoreView.{CoreView}
+use Rattle.weak_part_calls.specs.core_events.Views.{without}
+use Rattle.weak_part_calls.specs.core_events.Words.{slot_in}
+use Rattle.weak_part_calls.proofs.Below.core_law.Kit.{times_push}
+use Rattle.weak_part_calls.specs.acquire_retire.Calls.{IsReady, Steps}
+use Rattle.weak_part_calls.specs.acquire_retire.Collecting.{move}
+use Rattle.weak_part_calls.specs.acquire_retire.Domains.{DomainState}
+use Rattle.weak_part_calls.specs.acquire_retire.Seats.{SeatState}
+use Rattle.weak_part_calls.specs.control_word.Moves.{Becomes, KnowsStill}
+use Rattle.linked_queue.specs.queue_law.declared.view.Form.TheVariants.{Double}
+use Rattle.linked_queue.specs.queue_law.declared.view.View.{View}
+use Rattle.linked_queue.specs.queue_law.Lessons.{set_next}
+use Rattle.linked_queue.specs.queue_law.Pushes.{HelpReady, helped_view}
+use Rattle.linked_queue.specs.queue_protocol.declared.law.QueueLaw.{QueueLaw}
 use Rattle.linked_queue.specs.Pushes.{SeesTail}
 use Rattle.linked_queue.specs.Queues.{ends_of}
 use Rattle.linked_queue.proofs.Looks.{looked}

@@ -1,26 +1,26 @@
 -- What single calls leave of a seat that counts weak references.
 use Rattle.std.proofs.Common.{◌≡◌, ◌≤◌, ℕ, List, [], ◌∷◌, ◌++◌, refl, ap, sym, ◌∙◌, subst, arith}
 use Rattle.std.specs.Prelude.{Option, Some}
-use Rattle.plain_state.specs.declared.act.EventPlace.{EventPlace}
-use Rattle.plain_state.specs.declared.act.PlainAct.{PlainAct}
-use Rattle.plain_state.specs.declared.slot.Kind.TheVariants.{Weak}
-use Rattle.plain_state.specs.declared.slot.SlotId.{SlotId}
-use Rattle.plain_state.specs.Lists.{times}
-use Rattle.plain_state.specs.Places.{place_kind}
-use Rattle.plain_state.specs.State.{Plain}
-use Rattle.plain_protocol.specs.Owns.{OwnPart}
-use Rattle.core_events.specs.declared.view.CoreView.{CoreView}
-use Rattle.core_events.specs.declared.view.Move.{Move}
-use Rattle.core_events.specs.Steps.{without_given}
-use Rattle.core_events.specs.Views.{Holds, without}
-use Rattle.acquire_retire.specs.Collecting.{rest_of}
-use Rattle.acquire_retire.specs.Domains.{DomainState}
-use Rattle.acquire_retire.specs.Seats.{SeatState}
-use Rattle.control_word.specs.Calls.{DropsWeak, GainsWeak, with_weak, without_weak}
-use Rattle.control_word.specs.Resting.{IsSpent}
-use Rattle.control_word.specs.Moves.{KnowsStill}
-use Rattle.protected_loads.proofs.Telling.{holds_has}
-use Rattle.retiring_stores.specs.Exchanging.{Exchanges}
+use Rattle.weak_part_calls.specs.plain_state.declared.act.EventPlace.{EventPlace}
+use Rattle.weak_part_calls.specs.plain_state.declared.act.PlainAct.{PlainAct}
+use Rattle.weak_part_calls.specs.plain_state.declared.slot.Kind.TheVariants.{Weak}
+use Rattle.weak_part_calls.specs.plain_state.declared.slot.SlotId.{SlotId}
+use Rattle.weak_part_calls.specs.plain_state.Lists.{times}
+use Rattle.weak_part_calls.specs.plain_state.Places.{place_kind}
+use Rattle.weak_part_calls.specs.plain_state.State.{Plain}
+use Rattle.weak_part_calls.specs.plain_protocol.Owns.{OwnPart}
+use Rattle.weak_part_calls.specs.core_events.declared.view.CoreView.{CoreView}
+use Rattle.weak_part_calls.specs.core_events.declared.view.Move.{Move}
+use Rattle.weak_part_calls.specs.core_events.Steps.{without_given}
+use Rattle.weak_part_calls.specs.core_events.Views.{Holds, without}
+use Rattle.weak_part_calls.specs.acquire_retire.Collecting.{rest_of}
+use Rattle.weak_part_calls.specs.acquire_retire.Domains.{DomainState}
+use Rattle.weak_part_calls.specs.acquire_retire.Seats.{SeatState}
+use Rattle.weak_part_calls.specs.control_word.Calls.{DropsWeak, GainsWeak, with_weak, without_weak}
+use Rattle.weak_part_calls.specs.control_word.Resting.{IsSpent}
+use Rattle.weak_part_calls.specs.control_word.Moves.{KnowsStill}
+use Rattle.weak_part_calls.proofs.Below.protected_loads.Telling.{holds_has}
+use Rattle.weak_part_calls.specs.retiring_stores.Exchanging.{Exchanges}
 use Rattle.linked_queue.proofs.Trails.{exchange_trail, trail_same}
 use Rattle.double_link_queue.specs.Leaving.{LeavesBoth, apart}
 use Rattle.double_link_queue.proofs.Owning.{holds_both}

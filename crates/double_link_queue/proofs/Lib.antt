@@ -1,3 +1,4 @@
+pub mod Below
 pub mod Owning
 pub mod Leavings
 pub mod Backs

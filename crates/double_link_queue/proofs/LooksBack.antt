@@ -1,31 +1,31 @@
 -- What a seat finds by the weak field of a node that it saw in the tail cell.
 use Rattle.std.proofs.Common.{◌≡◌, inl, inr, ℕ, suc, ◌+◌, ◌<◌, ◌≤◌, true, refl, ap, sym, ◌∙◌, subst, arith, List}
 use Rattle.std.specs.Prelude.{Err, IfErr, IfOk, IfSome, Ok, Option, Result, Some, None, ◌⊎◌, ◌==◌}
-use Rattle.plain_state.specs.declared.act.EventPlace.TheVariants.{WeakField}
-use Rattle.plain_state.specs.declared.act.PlainAct.{PlainAct}
-use Rattle.plain_state.specs.declared.act.PlainAct.TheVariants as plain
-use Rattle.plain_state.specs.declared.slot.SlotId.{SlotId}
-use Rattle.plain_state.specs.Lists.{times}
-use Rattle.core_events.specs.declared.view.CoreView.{CoreView}
-use Rattle.core_events.specs.Words.{slot_in}
-use Rattle.core_law.proofs.Kit.{one_same, times_push}
-use Rattle.counted_handles.specs.Handles.{Handle}
-use Rattle.counted_handles.specs.declared.refusal.LoadError.{LoadError}
-use Rattle.counted_handles.specs.declared.refusal.LoadError.TheVariants as unloaded
-use Rattle.domain_rule.specs.Views.{own_of}
-use Rattle.acquire_retire.specs.Domains.{DomainState}
-use Rattle.acquire_retire.specs.Seats.{SeatState}
-use Rattle.atomic_weak.specs.Places.{named}
-use Rattle.control_word.specs.Calls.{with_weak}
-use Rattle.control_word.specs.Moves.{KnowsStill}
-use Rattle.control_word.specs.Resting.{IsAtRest, IsSpent}
-use Rattle.protected_loads.specs.Loads.{FindsNull, Misses}
-use Rattle.protected_loads.specs.References.{IsReadyToLoad, Loads, Refers}
-use Rattle.protected_loads.proofs.Learning.{client_found, client_moved, client_null}
-use Rattle.queue_law.specs.declared.view.Form.TheVariants.{Double}
-use Rattle.queue_law.specs.declared.view.View.{View}
-use Rattle.queue_law.specs.Lessons.{BeforeReady, TellsNothing, before_next}
-use Rattle.queue_protocol.specs.declared.law.QueueLaw.{QueueLaw}
+use Rattle.weak_part_calls.specs.plain_state.declared.act.EventPlace.TheVariants.{WeakField}
+use Rattle.weak_part_calls.specs.plain_state.declared.act.PlainAct.{PlainAct}
+use Rattle.weak_part_calls.specs.plain_state.declared.act.PlainAct.TheVariants as plain
+use Rattle.weak_part_calls.specs.plain_state.declared.slot.SlotId.{SlotId}
+use Rattle.weak_part_calls.specs.plain_state.Lists.{times}
+use Rattle.weak_part_calls.specs.core_events.declared.view.CoreView.{CoreView}
+use Rattle.weak_part_calls.specs.core_events.Words.{slot_in}
+use Rattle.weak_part_calls.proofs.Below.core_law.Kit.{one_same, times_push}
+use Rattle.weak_part_calls.specs.counted_handles.Handles.{Handle}
+use Rattle.weak_part_calls.specs.counted_handles.declared.refusal.LoadError.{LoadError}
+use Rattle.weak_part_calls.specs.counted_handles.declared.refusal.LoadError.TheVariants as unloaded
+use Rattle.weak_part_calls.specs.domain_rule.Views.{own_of}
+use Rattle.weak_part_calls.specs.acquire_retire.Domains.{DomainState}
+use Rattle.weak_part_calls.specs.acquire_retire.Seats.{SeatState}
+use Rattle.weak_part_calls.specs.atomic_weak.Places.{named}
+use Rattle.weak_part_calls.specs.control_word.Calls.{with_weak}
+use Rattle.weak_part_calls.specs.control_word.Moves.{KnowsStill}
+use Rattle.weak_part_calls.specs.control_word.Resting.{IsAtRest, IsSpent}
+use Rattle.weak_part_calls.specs.protected_loads.Loads.{FindsNull, Misses}
+use Rattle.weak_part_calls.specs.protected_loads.References.{IsReadyToLoad, Loads, Refers}
+use Rattle.weak_part_calls.proofs.Below.protected_loads.Learning.{client_found, client_moved, client_null}
+use Rattle.linked_queue.specs.queue_law.declared.view.Form.TheVariants.{Double}
+use Rattle.linked_queue.specs.queue_law.declared.view.View.{View}
+use Rattle.linked_queue.specs.queue_law.Lessons.{BeforeReady, TellsNothing, before_next}
+use Rattle.linked_queue.specs.queue_protocol.declared.law.QueueLaw.{QueueLaw}
 use Rattle.linked_queue.specs.Leaving.{with_found}
 use Rattle.linked_queue.specs.Pushes.{SeesTail}
 use Rattle.linked_queue.specs.Queues.{beside_eyes, ends_of}

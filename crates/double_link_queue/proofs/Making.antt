@@ -1,23 +1,23 @@
 -- A load of a weak field makes no object.
 use Rattle.std.proofs.Common.{◌≡◌, ℕ, refl, ap, List}
 use Rattle.std.specs.Prelude.{Err, IfOk, Ok, Option, Result, Some, None}
-use Rattle.plain_state.specs.declared.act.EventPlace.TheVariants.{WeakField}
-use Rattle.plain_state.specs.declared.act.PlainAct.{PlainAct}
-use Rattle.plain_state.specs.declared.slot.SlotId.{SlotId}
-use Rattle.plain_state.specs.State.{Plain}
-use Rattle.plain_protocol.specs.Owns.{OwnPart}
-use Rattle.core_events.specs.declared.view.CoreView.{CoreView}
-use Rattle.core_events.specs.Words.{slot_in}
-use Rattle.counted_handles.specs.Handles.{Handle}
-use Rattle.counted_handles.specs.declared.refusal.LoadError.{LoadError}
-use Rattle.counted_handles.specs.declared.refusal.LoadError.TheVariants as unloaded
-use Rattle.acquire_retire.specs.Domains.{DomainState}
-use Rattle.acquire_retire.specs.Seats.{SeatState}
-use Rattle.atomic_weak.specs.Places.{named as weakly_named}
-use Rattle.protected_loads.specs.Loads.{Misses}
-use Rattle.protected_loads.specs.References.{Loads}
-use Rattle.queue_law.specs.declared.view.View.{View}
-use Rattle.queue_protocol.specs.declared.law.QueueLaw.{QueueLaw}
+use Rattle.weak_part_calls.specs.plain_state.declared.act.EventPlace.TheVariants.{WeakField}
+use Rattle.weak_part_calls.specs.plain_state.declared.act.PlainAct.{PlainAct}
+use Rattle.weak_part_calls.specs.plain_state.declared.slot.SlotId.{SlotId}
+use Rattle.weak_part_calls.specs.plain_state.State.{Plain}
+use Rattle.weak_part_calls.specs.plain_protocol.Owns.{OwnPart}
+use Rattle.weak_part_calls.specs.core_events.declared.view.CoreView.{CoreView}
+use Rattle.weak_part_calls.specs.core_events.Words.{slot_in}
+use Rattle.weak_part_calls.specs.counted_handles.Handles.{Handle}
+use Rattle.weak_part_calls.specs.counted_handles.declared.refusal.LoadError.{LoadError}
+use Rattle.weak_part_calls.specs.counted_handles.declared.refusal.LoadError.TheVariants as unloaded
+use Rattle.weak_part_calls.specs.acquire_retire.Domains.{DomainState}
+use Rattle.weak_part_calls.specs.acquire_retire.Seats.{SeatState}
+use Rattle.weak_part_calls.specs.atomic_weak.Places.{named as weakly_named}
+use Rattle.weak_part_calls.specs.protected_loads.Loads.{Misses}
+use Rattle.weak_part_calls.specs.protected_loads.References.{Loads}
+use Rattle.linked_queue.specs.queue_law.declared.view.View.{View}
+use Rattle.linked_queue.specs.queue_protocol.declared.law.QueueLaw.{QueueLaw}
 
 module _ (fits : List ℕ → Type 0) (d : DomainState QueueLaw)
     {next : OwnPart → OwnPart → View → PlainAct → ℕ → View}

@@ -1,12 +1,12 @@
 -- What a seat owns after several calls, strongly and weakly, and what it knows of the objects that it holds still.
 use Rattle.std.proofs.Common.{◌≡◌, ◌≢◌, ⊎_elim, ◌<◌, ◌≤◌, List, [], ◌∷◌, ◌++◌, refl, ap, sym, ◌∙◌, subst, arith}
 use Rattle.std.specs.Prelude.{Option, Some, None}
-use Rattle.plain_state.specs.declared.slot.SlotId.{SlotId}
-use Rattle.plain_state.specs.Lists.{times}
-use Rattle.core_events.specs.declared.view.CoreView.{CoreView}
-use Rattle.core_events.specs.Views.{Holds, held_times, without}
-use Rattle.core_law.proofs.Kit.{one_other, one_same, slot_cases, times_none, times_push, times_without}
-use Rattle.acquire_retire.specs.Seats.{SeatState}
+use Rattle.weak_part_calls.specs.plain_state.declared.slot.SlotId.{SlotId}
+use Rattle.weak_part_calls.specs.plain_state.Lists.{times}
+use Rattle.weak_part_calls.specs.core_events.declared.view.CoreView.{CoreView}
+use Rattle.weak_part_calls.specs.core_events.Views.{Holds, held_times, without}
+use Rattle.weak_part_calls.proofs.Below.core_law.Kit.{one_other, one_same, slot_cases, times_none, times_push, times_without}
+use Rattle.weak_part_calls.specs.acquire_retire.Seats.{SeatState}
 use Rattle.linked_queue.specs.Leaving.{Leaves, with_found}
 use Rattle.linked_queue.proofs.Owning.{found_more}
 use Rattle.linked_queue.proofs.Trails.{trail_then}

@@ -1,10 +1,10 @@
 -- A seat's own node was linked back, and the link of the node before helped: the tail cell may be exchanged.
 use Rattle.std.proofs.Common.{◌≡◌, true, ap, ◌∙◌}
 use Rattle.std.specs.Prelude.{None}
-use Rattle.plain_state.specs.declared.slot.SlotId.{SlotId}
-use Rattle.acquire_retire.specs.Seats.{SeatState}
-use Rattle.queue_law.specs.declared.view.View.{View}
-use Rattle.queue_law.specs.Pushes.{carried_item}
+use Rattle.weak_part_calls.specs.plain_state.declared.slot.SlotId.{SlotId}
+use Rattle.weak_part_calls.specs.acquire_retire.Seats.{SeatState}
+use Rattle.linked_queue.specs.queue_law.declared.view.View.{View}
+use Rattle.linked_queue.specs.queue_law.Pushes.{carried_item}
 use Rattle.linked_queue.specs.Pushes.{HasLoad, SeesTail}
 use Rattle.linked_queue.specs.Queues.{IsAttached, beside_eyes}
 use Rattle.double_link_queue.specs.Leaving.{LeavesBoth}

@@ -1,23 +1,23 @@
 -- An upgrade of the node before one that a seat saw in the tail cell.
 use Rattle.std.proofs.Common.{◌≡◌, ℕ, ◌<◌, Bool, true, false, [], ◌∷◌, ◌++◌, refl, ap, sym, ◌∙◌, subst, arith, List}
 use Rattle.std.specs.Prelude.{cond, ◌==◌}
-use Rattle.plain_state.specs.declared.slot.SlotId.{SlotId}
-use Rattle.plain_state.specs.Lists.{times}
-use Rattle.core_events.specs.declared.act.Act.TheVariants as act
-use Rattle.core_events.specs.declared.outcome.Outcome.{Outcome}
-use Rattle.core_events.specs.declared.view.CoreView.{CoreView}
-use Rattle.core_events.specs.ShownSteps.{shown_number}
-use Rattle.acquire_retire.specs.Calls.{IsReady}
-use Rattle.acquire_retire.specs.Collecting.{move}
-use Rattle.acquire_retire.specs.Domains.{DomainState}
-use Rattle.acquire_retire.specs.Seats.{SeatState}
-use Rattle.control_word.specs.Calls.{FindsEnded, GainsStrong, with_add, with_strong}
-use Rattle.control_word.specs.Moves.{Becomes, KnowsStill}
-use Rattle.queue_law.specs.declared.view.Form.TheVariants.{Double}
-use Rattle.queue_law.specs.declared.view.View.{View}
-use Rattle.queue_law.specs.Lessons.{EndedReady, EndedTells, ended_next}
-use Rattle.queue_law.specs.Pushes.{helped_view}
-use Rattle.queue_protocol.specs.declared.law.QueueLaw.{QueueLaw}
+use Rattle.weak_part_calls.specs.plain_state.declared.slot.SlotId.{SlotId}
+use Rattle.weak_part_calls.specs.plain_state.Lists.{times}
+use Rattle.weak_part_calls.specs.core_events.declared.act.Act.TheVariants as act
+use Rattle.weak_part_calls.specs.core_events.declared.outcome.Outcome.{Outcome}
+use Rattle.weak_part_calls.specs.core_events.declared.view.CoreView.{CoreView}
+use Rattle.weak_part_calls.specs.core_events.ShownSteps.{shown_number}
+use Rattle.weak_part_calls.specs.acquire_retire.Calls.{IsReady}
+use Rattle.weak_part_calls.specs.acquire_retire.Collecting.{move}
+use Rattle.weak_part_calls.specs.acquire_retire.Domains.{DomainState}
+use Rattle.weak_part_calls.specs.acquire_retire.Seats.{SeatState}
+use Rattle.weak_part_calls.specs.control_word.Calls.{FindsEnded, GainsStrong, with_add, with_strong}
+use Rattle.weak_part_calls.specs.control_word.Moves.{Becomes, KnowsStill}
+use Rattle.linked_queue.specs.queue_law.declared.view.Form.TheVariants.{Double}
+use Rattle.linked_queue.specs.queue_law.declared.view.View.{View}
+use Rattle.linked_queue.specs.queue_law.Lessons.{EndedReady, EndedTells, ended_next}
+use Rattle.linked_queue.specs.queue_law.Pushes.{helped_view}
+use Rattle.linked_queue.specs.queue_protocol.declared.law.QueueLaw.{QueueLaw}
 use Rattle.linked_queue.specs.Pushes.{SeesTail}
 use Rattle.linked_queue.specs.Queues.{IsAttached, beside_eyes, ends_of}
 use Rattle.linked_queue.proofs.Owning.{has_owned, own_life, owns_pushed, still_owned}

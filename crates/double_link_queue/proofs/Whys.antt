@@ -1,7 +1,7 @@
 -- What follows for what a call answers.
 use Rattle.std.specs.Prelude.{Err, IfOk, IfSome, Ok, OnErr, Option, Result, Some, None}
-use Rattle.plain_state.specs.declared.slot.SlotId.{SlotId}
-use Rattle.counted_handles.specs.Handles.{Handle}
+use Rattle.weak_part_calls.specs.plain_state.declared.slot.SlotId.{SlotId}
+use Rattle.weak_part_calls.specs.counted_handles.Handles.{Handle}
 
 -- what follows for each slot that was found follows for an answer
 pub found_then : {E : Type 0} (P Q : SlotId → Type 0) (r : Result (Option Handle) E)

@@ -1,20 +1,20 @@
 -- What a look at field 0 of the node before one that was seen tells a seat that holds both.
 use Rattle.std.proofs.Common.{◌≡◌, ◌≢◌, ℕ, ◌+◌, ◌<◌, refl, ap, sym, ◌∙◌, subst, arith}
-use Rattle.plain_state.specs.declared.act.PlainAct.{PlainAct}
-use Rattle.plain_state.specs.State.{Plain, no_payload}
-use Rattle.plain_protocol.specs.Laws.{Keeps}
-use Rattle.plain_protocol.specs.Owns.{OwnPart}
-use Rattle.queue_law.specs.declared.view.View.{View}
-use Rattle.queue_law.specs.Chain.{Ends}
-use Rattle.queue_law.specs.Law.{WholeLaw}
-use Rattle.queue_law.specs.Lessons.{SetReady, set_next}
-use Rattle.queue_law.specs.Views.{first_view, view_at}
-use Rattle.queue_law.specs.Words.{Live, first_of, held_times, slot_at}
-use Rattle.queue_law.proofs.Deeds as deeds
-use Rattle.queue_law.proofs.Effects.{calm_quiet}
-use Rattle.queue_law.proofs.Kit.{held_live}
-use Rattle.queue_law.proofs.Lessons.{reads_calm}
-use Rattle.queue_law.proofs.Seen.{before_here, before_present}
+use Rattle.weak_part_calls.specs.plain_state.declared.act.PlainAct.{PlainAct}
+use Rattle.weak_part_calls.specs.plain_state.State.{Plain, no_payload}
+use Rattle.weak_part_calls.specs.plain_protocol.Laws.{Keeps}
+use Rattle.weak_part_calls.specs.plain_protocol.Owns.{OwnPart}
+use Rattle.linked_queue.specs.queue_law.declared.view.View.{View}
+use Rattle.linked_queue.specs.queue_law.Chain.{Ends}
+use Rattle.linked_queue.specs.queue_law.Law.{WholeLaw}
+use Rattle.linked_queue.specs.queue_law.Lessons.{SetReady, set_next}
+use Rattle.linked_queue.specs.queue_law.Views.{first_view, view_at}
+use Rattle.linked_queue.specs.queue_law.Words.{Live, first_of, held_times, slot_at}
+use Rattle.linked_queue.proofs.Below.queue_law.Deeds as deeds
+use Rattle.linked_queue.proofs.Below.queue_law.Effects.{calm_quiet}
+use Rattle.linked_queue.proofs.Below.queue_law.Kit.{held_live}
+use Rattle.linked_queue.proofs.Below.queue_law.Lessons.{reads_calm}
+use Rattle.linked_queue.proofs.Below.queue_law.Seen.{before_here, before_present}
 
 -- the deed that learns whether the field is set is ready, and the seat holds the node before
 pub record HeldSetReady (u : Ends) (own : OwnPart) (v : View) (step : PlainAct) : Type 0 where

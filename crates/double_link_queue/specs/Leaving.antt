@@ -1,11 +1,11 @@
 -- What a call leaves of a seat that counts weak references on its way.
 use Rattle.std.specs.Prelude.{◌≡◌, ◌≤◌, List, []}
-use Rattle.plain_state.specs.declared.slot.SlotId.{SlotId}
-use Rattle.plain_state.specs.Lists.{times}
-use Rattle.core_events.specs.declared.view.CoreView.{CoreView}
-use Rattle.core_events.specs.Views.{Holds}
-use Rattle.domain_rule.specs.Views.{object_in}
-use Rattle.acquire_retire.specs.Seats.{SeatState}
+use Rattle.weak_part_calls.specs.plain_state.declared.slot.SlotId.{SlotId}
+use Rattle.weak_part_calls.specs.plain_state.Lists.{times}
+use Rattle.weak_part_calls.specs.core_events.declared.view.CoreView.{CoreView}
+use Rattle.weak_part_calls.specs.core_events.Views.{Holds}
+use Rattle.weak_part_calls.specs.domain_rule.Views.{object_in}
+use Rattle.weak_part_calls.specs.acquire_retire.Seats.{SeatState}
 use Rattle.linked_queue.specs.Leaving.{TrailGoesOn, aside}
 
 -- what a seat has beside the references that it owns, strongly or weakly, and beside what `aside` leaves out

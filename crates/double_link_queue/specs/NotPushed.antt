@@ -1,13 +1,13 @@
 -- Why the push of a copy pushed nothing.
 use Rattle.std.specs.Prelude.{ℕ, List, Option, Some, None}
-use Rattle.plain_state.specs.declared.slot.SlotId.{SlotId}
+use Rattle.weak_part_calls.specs.plain_state.declared.slot.SlotId.{SlotId}
 use Rattle.linked_queue.specs.declared.queue.PushError.{PushError}
 use Rattle.linked_queue.specs.declared.queue.PushError.TheVariants as unpushed
-use Rattle.slot_store.specs.declared.making.MakeError.{MakeError}
-use Rattle.acquire_retire.specs.Domains.{DomainState}
-use Rattle.acquire_retire.specs.Seats.{SeatState}
-use Rattle.queue_law.specs.declared.view.View.{View}
-use Rattle.queue_protocol.specs.declared.law.QueueLaw.{QueueLaw}
+use Rattle.weak_part_calls.specs.slot_store.declared.making.MakeError.{MakeError}
+use Rattle.weak_part_calls.specs.acquire_retire.Domains.{DomainState}
+use Rattle.weak_part_calls.specs.acquire_retire.Seats.{SeatState}
+use Rattle.linked_queue.specs.queue_law.declared.view.View.{View}
+use Rattle.linked_queue.specs.queue_protocol.declared.law.QueueLaw.{QueueLaw}
 use Rattle.linked_queue.specs.Pushes.{IsWhyRefused}
 use Rattle.double_link_queue.specs.declared.pushing.NotPushed.{NotPushed}
 use Rattle.double_link_queue.specs.declared.pushing.NotPushed.TheVariants as failed

@@ -1,15 +1,15 @@
 -- What a seat has on its way through a push, and what a push leaves.
 use Rattle.std.specs.Prelude.{◌≡◌, ◌+◌, ◌<◌, true, Option, None, Result, Ok, Err}
-use Rattle.plain_state.specs.declared.slot.SlotId.{SlotId}
-use Rattle.plain_state.specs.Lists.{times}
-use Rattle.plain_state.specs.State.{no_payload}
-use Rattle.core_events.specs.Views.{without}
-use Rattle.atomic_weak.specs.Places.{named}
-use Rattle.counted_handles.specs.Handles.{Handle}
-use Rattle.domain_rule.specs.Views.{object_in}
-use Rattle.acquire_retire.specs.Seats.{SeatState}
-use Rattle.queue_law.specs.declared.view.View.{View}
-use Rattle.queue_law.specs.Views.{no_flight}
+use Rattle.weak_part_calls.specs.plain_state.declared.slot.SlotId.{SlotId}
+use Rattle.weak_part_calls.specs.plain_state.Lists.{times}
+use Rattle.weak_part_calls.specs.plain_state.State.{no_payload}
+use Rattle.weak_part_calls.specs.core_events.Views.{without}
+use Rattle.weak_part_calls.specs.atomic_weak.Places.{named}
+use Rattle.weak_part_calls.specs.counted_handles.Handles.{Handle}
+use Rattle.weak_part_calls.specs.domain_rule.Views.{object_in}
+use Rattle.weak_part_calls.specs.acquire_retire.Seats.{SeatState}
+use Rattle.linked_queue.specs.queue_law.declared.view.View.{View}
+use Rattle.linked_queue.specs.queue_law.Views.{no_flight}
 use Rattle.linked_queue.specs.Pops.{item_in}
 use Rattle.linked_queue.specs.Pushes.{HasLoad, SeesTail, pushed_too}
 use Rattle.linked_queue.specs.Queues.{beside_eyes, deeds_in}

@@ -1,8 +1,8 @@
 -- When a call on a doubly linked queue may be made: what the domain has.
 use Rattle.std.specs.Prelude.{ℕ, ◌≡◌, ◌<◌}
-use Rattle.acquire_retire.specs.Domains.{DomainState}
-use Rattle.queue_law.specs.declared.view.Form.TheVariants.{Double}
-use Rattle.queue_protocol.specs.declared.law.QueueLaw.{QueueLaw}
+use Rattle.weak_part_calls.specs.acquire_retire.Domains.{DomainState}
+use Rattle.linked_queue.specs.queue_law.declared.view.Form.TheVariants.{Double}
+use Rattle.linked_queue.specs.queue_protocol.declared.law.QueueLaw.{QueueLaw}
 
 -- the law is that of a doubly linked queue over these two cells, and the domain has them
 pub record IsDoubleOf (i j : ℕ) (d : DomainState QueueLaw) : Type 0 where

@@ -1,20 +1,20 @@
 -- The steps of a push in order, with the deed of each; and those of a push that was lost to another seat.
 use Rattle.std.specs.Prelude.{ℕ, ◌≡◌, ◌⊎◌, ◌+◌, false, Option, Some, None, List}
-use Rattle.plain_state.specs.declared.act.EventPlace.TheVariants.{Cell, Field, WeakField}
-use Rattle.plain_state.specs.declared.slot.SlotId.{SlotId}
-use Rattle.core_events.specs.declared.act.Act.TheVariants as act
-use Rattle.core_events.specs.declared.outcome.Outcome.{Outcome}
-use Rattle.acquire_retire.specs.Calls.{IsSameView, Steps, same_view}
-use Rattle.acquire_retire.specs.Domains.{DomainState}
-use Rattle.acquire_retire.specs.Seats.{SeatState}
-use Rattle.control_word.specs.Calls.{DropsStrong, DropsWeak, FindsEnded, GainsStrong, GainsWeak}
-use Rattle.protected_loads.specs.References.{Loads}
-use Rattle.retiring_stores.specs.Exchanging.{LosesTo, Replaces, Stores}
-use Rattle.queue_law.specs.declared.view.View.{View}
-use Rattle.queue_law.specs.Lessons.{EndedTells, TellsNothing, before_next, ended_next, learn_next, set_next}
-use Rattle.queue_law.specs.Nodes.{back_next}
-use Rattle.queue_law.specs.Pushes.{exchange_next, help_next, land_next}
-use Rattle.queue_protocol.specs.declared.law.QueueLaw.{QueueLaw}
+use Rattle.weak_part_calls.specs.plain_state.declared.act.EventPlace.TheVariants.{Cell, Field, WeakField}
+use Rattle.weak_part_calls.specs.plain_state.declared.slot.SlotId.{SlotId}
+use Rattle.weak_part_calls.specs.core_events.declared.act.Act.TheVariants as act
+use Rattle.weak_part_calls.specs.core_events.declared.outcome.Outcome.{Outcome}
+use Rattle.weak_part_calls.specs.acquire_retire.Calls.{IsSameView, Steps, same_view}
+use Rattle.weak_part_calls.specs.acquire_retire.Domains.{DomainState}
+use Rattle.weak_part_calls.specs.acquire_retire.Seats.{SeatState}
+use Rattle.weak_part_calls.specs.control_word.Calls.{DropsStrong, DropsWeak, FindsEnded, GainsStrong, GainsWeak}
+use Rattle.weak_part_calls.specs.protected_loads.References.{Loads}
+use Rattle.weak_part_calls.specs.retiring_stores.Exchanging.{LosesTo, Replaces, Stores}
+use Rattle.linked_queue.specs.queue_law.declared.view.View.{View}
+use Rattle.linked_queue.specs.queue_law.Lessons.{EndedTells, TellsNothing, before_next, ended_next, learn_next, set_next}
+use Rattle.linked_queue.specs.queue_law.Nodes.{back_next}
+use Rattle.linked_queue.specs.queue_law.Pushes.{exchange_next, help_next, land_next}
+use Rattle.linked_queue.specs.queue_protocol.declared.law.QueueLaw.{QueueLaw}
 use Rattle.linked_queue.specs.Cells.{TailTells}
 use Rattle.linked_queue.specs.PushLosses.{MissesTail}
 use Rattle.linked_queue.specs.Pushes.{LoadsNode}

@@ -1,11 +1,11 @@
 -- What a push does that tries again until no other seat is quicker.
 use Rattle.std.specs.Prelude.{ℕ, ◌≡◌, List}
-use Rattle.plain_state.specs.declared.slot.SlotId.{SlotId}
-use Rattle.acquire_retire.specs.Domains.{DomainState}
-use Rattle.acquire_retire.specs.Seats.{SeatState}
-use Rattle.control_word.specs.Calls.{DropsStrong}
-use Rattle.queue_law.specs.declared.view.View.{View}
-use Rattle.queue_protocol.specs.declared.law.QueueLaw.{QueueLaw}
+use Rattle.weak_part_calls.specs.plain_state.declared.slot.SlotId.{SlotId}
+use Rattle.weak_part_calls.specs.acquire_retire.Domains.{DomainState}
+use Rattle.weak_part_calls.specs.acquire_retire.Seats.{SeatState}
+use Rattle.weak_part_calls.specs.control_word.Calls.{DropsStrong}
+use Rattle.linked_queue.specs.queue_law.declared.view.View.{View}
+use Rattle.linked_queue.specs.queue_protocol.declared.law.QueueLaw.{QueueLaw}
 use Rattle.linked_queue.specs.Pushes.{LoadsNode}
 use Rattle.double_link_queue.specs.Leaving.{LeavesBoth}
 use Rattle.double_link_queue.specs.Pushes.{beside_back}

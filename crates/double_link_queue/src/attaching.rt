@@ -1,17 +1,16 @@
 //! How a seat comes to take part in a queue.
 ghost use Rattle.std.specs.Prelude.{◌≡◌, ◌<◌, if◌then◌else◌};
-ghost use Rattle.core_events.specs.Steps.{HasRoom};
-ghost use Rattle.control_word.specs.Resting.{IsAtRest};
-ghost use Rattle.part_calls.specs.Parts.{HasBeside, StaysBeside, as_part, seen_by};
-ghost use Rattle.queue_law.specs.Views.{first_view};
+ghost use Rattle.weak_part_calls.specs.core_events.Steps.{HasRoom};
+ghost use Rattle.weak_part_calls.specs.control_word.Resting.{IsAtRest};
+ghost use Rattle.weak_part_calls.specs.part_calls.Parts.{HasBeside, StaysBeside, as_part, seen_by};
+ghost use Rattle.linked_queue.specs.queue_law.Views.{first_view};
 ghost use Rattle.linked_queue.specs.Attaching.{LooksAtHead, attached_in, is_slot};
 ghost use Rattle.linked_queue.specs.Leaving.{Leaves};
 ghost use Rattle.double_link_queue.specs.Queues.{IsDoubleOf};
 
 use crate::queue::DoubleQueue;
-use acquire_retire::{Domain, EventPlace, Outcome, Seat, SlotId};
-use part_calls::look;
-use queue_protocol::{AttachSeat, HasQueue, QueueLaw};
+use linked_queue::{AttachSeat, HasQueue, QueueLaw};
+use weak_part_calls::{Domain, EventPlace, Outcome, Seat, SlotId, look};
 
 impl DoubleQueue {
     /// Whether the queue is laid, by one look at the head cell: true exactly where that found a slot, and the seat is

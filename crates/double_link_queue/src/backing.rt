@@ -1,26 +1,23 @@
 //! A node that leads back to the one that the tail cell held.
 ghost use Rattle.std.specs.Prelude.{◌≡◌, ◌<◌, ◌≤◌, ◌+◌, IfErr, IfOk, OnErr, Some};
-ghost use Rattle.plain_state.specs.Lists.{times};
-ghost use Rattle.core_events.specs.Steps.{HasRoom};
-ghost use Rattle.core_events.specs.Views.{without};
-ghost use Rattle.control_word.specs.Resting.{IsAtRest, IsSpent};
-ghost use Rattle.part_calls.specs.Parts.{HasBeside, as_part, seen_by};
-ghost use Rattle.plain_state.specs.declared.act.EventPlace.TheVariants.{WeakField};
-ghost use Rattle.retiring_stores.specs.Exchanging.{Stores};
-ghost use Rattle.queue_law.specs.Lessons.{TellsNothing};
-ghost use Rattle.queue_law.specs.Nodes.{back_next};
+ghost use Rattle.weak_part_calls.specs.plain_state.Lists.{times};
+ghost use Rattle.weak_part_calls.specs.core_events.Steps.{HasRoom};
+ghost use Rattle.weak_part_calls.specs.core_events.Views.{without};
+ghost use Rattle.weak_part_calls.specs.control_word.Resting.{IsAtRest, IsSpent};
+ghost use Rattle.weak_part_calls.specs.part_calls.Parts.{HasBeside, as_part, seen_by};
+ghost use Rattle.weak_part_calls.specs.plain_state.declared.act.EventPlace.TheVariants.{WeakField};
+ghost use Rattle.weak_part_calls.specs.retiring_stores.Exchanging.{Stores};
+ghost use Rattle.linked_queue.specs.queue_law.Lessons.{TellsNothing};
+ghost use Rattle.linked_queue.specs.queue_law.Nodes.{back_next};
 ghost use Rattle.linked_queue.specs.UnlessRipe.{next_unless};
 ghost use Rattle.double_link_queue.specs.Steps.{LinksBack};
-ghost use Rattle.queue_law.specs.Views.{first_view};
+ghost use Rattle.linked_queue.specs.queue_law.Views.{first_view};
 ghost use Rattle.linked_queue.specs.Pushes.{HasLoad, SeesTail};
 ghost use Rattle.double_link_queue.specs.Leaving.{LeavesBoth};
 ghost use Rattle.double_link_queue.specs.Pushes.{backed_in};
 
-use acquire_retire::{Domain, Seat, SlotId};
-use counted_handles::{Spent, Strong, Weak, WeakPlace};
-use linked_queue::UnlessRipe;
-use queue_protocol::{HasQueue, LinkBack, QueueLaw};
-use weak_part_calls::{store_weak, weaken};
+use linked_queue::{HasQueue, LinkBack, QueueLaw, UnlessRipe};
+use weak_part_calls::{Domain, Seat, SlotId, Spent, Strong, Weak, WeakPlace, store_weak, weaken};
 
 /// Puts a weak reference to the tail cell's node into the weak field of the seat's own.
 pub(crate) fn link_back<S, P: HasQueue<S>>(

@@ -1,13 +1,13 @@
 //! A node that carries its item becomes the last one, behind the node that the tail cell held.
 ghost use Rattle.std.specs.Prelude.{◌≡◌, ◌<◌, IfErr, IfOk, OnErr};
-ghost use Rattle.core_events.specs.Steps.{HasRoom};
-ghost use Rattle.core_events.specs.Views.{without};
-ghost use Rattle.control_word.specs.Resting.{IsAtRest, IsSpent};
-ghost use Rattle.counted_handles.specs.declared.refusal.LoadError.TheVariants as unloaded;
-ghost use Rattle.part_calls.specs.Parts.{HasBeside, as_part, seen_by};
-ghost use Rattle.queue_law.specs.declared.view.Form.TheVariants.{Double};
-ghost use Rattle.queue_law.specs.Pushes.{carried_item};
-ghost use Rattle.queue_law.specs.Views.{first_view};
+ghost use Rattle.weak_part_calls.specs.core_events.Steps.{HasRoom};
+ghost use Rattle.weak_part_calls.specs.core_events.Views.{without};
+ghost use Rattle.weak_part_calls.specs.control_word.Resting.{IsAtRest, IsSpent};
+ghost use Rattle.weak_part_calls.specs.counted_handles.declared.refusal.LoadError.TheVariants as unloaded;
+ghost use Rattle.weak_part_calls.specs.part_calls.Parts.{HasBeside, as_part, seen_by};
+ghost use Rattle.linked_queue.specs.queue_law.declared.view.Form.TheVariants.{Double};
+ghost use Rattle.linked_queue.specs.queue_law.Pushes.{carried_item};
+ghost use Rattle.linked_queue.specs.queue_law.Views.{first_view};
 ghost use Rattle.linked_queue.specs.Leaving.{handle_by, with_found};
 ghost use Rattle.linked_queue.specs.Pushes.{HasLoad, IsWhyUnlinked, SeesTail, pushed_too};
 ghost use Rattle.linked_queue.specs.Queues.{IsAttached, deeds_in};
@@ -18,10 +18,8 @@ ghost use Rattle.double_link_queue.specs.Steps.{LosesLast, LosesNode, LosesTake,
 use crate::backing::link_back;
 use crate::exchanging::{exchange, land, load_tail};
 use crate::helping::help;
-use acquire_retire::{Domain, Seat, SlotId};
-use counted_handles::Strong;
-use part_calls::{LoadError, drop_strong};
-use queue_protocol::{HasQueue, QueueLaw};
+use linked_queue::{HasQueue, QueueLaw};
+use weak_part_calls::{Domain, LoadError, Seat, SlotId, Strong, drop_strong};
 
 /// Pushes a node that carries its item, or gives it up.
 pub(crate) fn push_node<S, P: HasQueue<S>>(

@@ -1,14 +1,14 @@
 //! The end of the queue: the exchange of the tail cell, which decides a push, and the link that follows it.
 ghost use Rattle.std.specs.Prelude.{◌≡◌, ◌≢◌, ◌<◌, ◌≤◌, ◌+◌, IfErr, IfOk, IfSome, OnErr, None};
-ghost use Rattle.core_events.specs.Steps.{HasRoom};
-ghost use Rattle.core_events.specs.Views.{without};
-ghost use Rattle.atomic_shared.specs.Places.{named};
-ghost use Rattle.control_word.specs.Resting.{IsAtRest, IsSpent};
-ghost use Rattle.counted_handles.specs.declared.refusal.LoadError.TheVariants as unloaded;
-ghost use Rattle.part_calls.specs.Parts.{HasBeside, as_part, seen_by};
-ghost use Rattle.queue_law.specs.declared.view.Form.TheVariants.{Double};
-ghost use Rattle.queue_law.specs.Pushes.{carried_item, flying_view};
-ghost use Rattle.queue_law.specs.Views.{first_view};
+ghost use Rattle.weak_part_calls.specs.core_events.Steps.{HasRoom};
+ghost use Rattle.weak_part_calls.specs.core_events.Views.{without};
+ghost use Rattle.weak_part_calls.specs.atomic_shared.Places.{named};
+ghost use Rattle.weak_part_calls.specs.control_word.Resting.{IsAtRest, IsSpent};
+ghost use Rattle.weak_part_calls.specs.counted_handles.declared.refusal.LoadError.TheVariants as unloaded;
+ghost use Rattle.weak_part_calls.specs.part_calls.Parts.{HasBeside, as_part, seen_by};
+ghost use Rattle.linked_queue.specs.queue_law.declared.view.Form.TheVariants.{Double};
+ghost use Rattle.linked_queue.specs.queue_law.Pushes.{carried_item, flying_view};
+ghost use Rattle.linked_queue.specs.queue_law.Views.{first_view};
 ghost use Rattle.linked_queue.specs.Leaving.{Leaves, found_by, with_found};
 ghost use Rattle.linked_queue.specs.PushLosses.{MissesTail};
 ghost use Rattle.linked_queue.specs.Pushes.{IsWhyUnlinked, SeesTail};
@@ -17,12 +17,11 @@ ghost use Rattle.linked_queue.specs.Seeing.{IsWhyUnread};
 ghost use Rattle.double_link_queue.specs.Pushes.{CanExchange, IsInFlight, landed_in};
 ghost use Rattle.double_link_queue.specs.Steps.{ExchangesTail, Lands, LoadsTail, LosesExchange};
 
-use acquire_retire::{Domain, Seat, SlotId};
-use core_functions::held_as;
-use counted_handles::Strong;
-use linked_queue::SeeTail;
-use part_calls::{LoadError, Place, copy_strong, drop_strong, try_load, try_replace};
-use queue_protocol::{ExchangeTail, HasQueue, LandPush, QueueLaw};
+use linked_queue::{ExchangeTail, HasQueue, LandPush, QueueLaw, SeeTail};
+use weak_part_calls::{
+    Domain, LoadError, Place, Seat, SlotId, Strong, copy_strong, drop_strong, held_as, try_load,
+    try_replace,
+};
 
 /// A reference to what the tail cell holds.
 pub(crate) fn load_tail<S, P: HasQueue<S>>(

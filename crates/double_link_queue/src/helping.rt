@@ -1,15 +1,15 @@
 //! The link behind the node before the last one: an earlier push that is still in flight may have left it null. It is
 //! set by whoever comes first.
 ghost use Rattle.std.specs.Prelude.{◌≡◌, ◌<◌, ◌≤◌, ◌+◌, true, false, IfErr, IfOk, OnErr};
-ghost use Rattle.plain_state.specs.Lists.{times};
-ghost use Rattle.core_events.specs.Steps.{HasRoom};
-ghost use Rattle.core_events.specs.Views.{without};
-ghost use Rattle.control_word.specs.Resting.{IsAtRest, IsSpent};
-ghost use Rattle.counted_handles.specs.declared.refusal.LoadError.TheVariants as unloaded;
-ghost use Rattle.part_calls.specs.Parts.{HasBeside, as_part, seen_by};
-ghost use Rattle.queue_law.specs.declared.view.Form.TheVariants.{Double};
-ghost use Rattle.queue_law.specs.Pushes.{helped_view};
-ghost use Rattle.queue_law.specs.Views.{first_view};
+ghost use Rattle.weak_part_calls.specs.plain_state.Lists.{times};
+ghost use Rattle.weak_part_calls.specs.core_events.Steps.{HasRoom};
+ghost use Rattle.weak_part_calls.specs.core_events.Views.{without};
+ghost use Rattle.weak_part_calls.specs.control_word.Resting.{IsAtRest, IsSpent};
+ghost use Rattle.weak_part_calls.specs.counted_handles.declared.refusal.LoadError.TheVariants as unloaded;
+ghost use Rattle.weak_part_calls.specs.part_calls.Parts.{HasBeside, as_part, seen_by};
+ghost use Rattle.linked_queue.specs.queue_law.declared.view.Form.TheVariants.{Double};
+ghost use Rattle.linked_queue.specs.queue_law.Pushes.{helped_view};
+ghost use Rattle.linked_queue.specs.queue_law.Views.{first_view};
 ghost use Rattle.linked_queue.specs.Leaving.{Leaves};
 ghost use Rattle.linked_queue.specs.Pushes.{IsWhyUnlinked, SeesTail};
 ghost use Rattle.linked_queue.specs.Queues.{IsAttached, beside_eyes};
@@ -19,10 +19,11 @@ ghost use Rattle.double_link_queue.specs.Steps.{Helps, HelpsAt, LooksBefore, Mis
 
 use crate::deeds::SeeSet;
 use crate::looking_back::find_before;
-use acquire_retire::{Domain, EventPlace, Outcome, Seat, SlotId};
-use counted_handles::{LoadError, Spent, Strong};
-use part_calls::{Place, copy_strong, drop_strong, look, try_replace};
-use queue_protocol::{HasQueue, HelpLink, QueueLaw};
+use linked_queue::{HasQueue, HelpLink, QueueLaw};
+use weak_part_calls::{
+    Domain, EventPlace, LoadError, Outcome, Place, Seat, SlotId, Spent, Strong, copy_strong,
+    drop_strong, look, try_replace,
+};
 
 /// Sees to it that the link behind the node before isn't missing.
 pub(crate) fn help<S, P: HasQueue<S>>(

@@ -37,12 +37,12 @@ mod pushing;
 mod pushing_waits;
 mod queue;
 mod shutting;
-#[cfg(test)]
-mod tests;
 mod waiting;
 
-pub use counted_handles::{Spent, Strong};
 pub use deeds::SeeSet;
-pub use linked_queue::{PopError, PushError, PushRefused};
+pub use linked_queue::{
+    FindSet, Form, HasQueue, LearnItem, LearnTail, LinkedQueue, MakeError, NodeKind, PopError,
+    PushError, PushRefused, QueueLaw,
+};
 pub use queue::DoubleQueue;
-pub use slot_store::MakeError;
+pub use weak_part_calls::{Deleter, Domain, Seat, Spent, Strong, collect, reap};

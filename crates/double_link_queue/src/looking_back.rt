@@ -1,16 +1,16 @@
 //! The node before the one that the tail cell held, by its weak field. Where there is none, or it has ended, no link is
 //! missing.
 ghost use Rattle.std.specs.Prelude.{◌≡◌, ◌<◌, ◌≤◌, ◌+◌, true, IfErr, IfOk, IfSome, None};
-ghost use Rattle.plain_state.specs.Lists.{times};
-ghost use Rattle.core_events.specs.Steps.{HasRoom};
-ghost use Rattle.core_events.specs.Views.{without};
-ghost use Rattle.control_word.specs.Resting.{IsAtRest, IsSpent};
-ghost use Rattle.counted_handles.specs.declared.refusal.LoadError.TheVariants as unloaded;
-ghost use Rattle.atomic_shared.specs.Places.{named};
-ghost use Rattle.atomic_weak.specs.Places.{named as weakly_named};
-ghost use Rattle.part_calls.specs.Parts.{HasBeside, as_part, seen_by};
-ghost use Rattle.queue_law.specs.declared.view.Form.TheVariants.{Double};
-ghost use Rattle.queue_law.specs.Views.{first_view};
+ghost use Rattle.weak_part_calls.specs.plain_state.Lists.{times};
+ghost use Rattle.weak_part_calls.specs.core_events.Steps.{HasRoom};
+ghost use Rattle.weak_part_calls.specs.core_events.Views.{without};
+ghost use Rattle.weak_part_calls.specs.control_word.Resting.{IsAtRest, IsSpent};
+ghost use Rattle.weak_part_calls.specs.counted_handles.declared.refusal.LoadError.TheVariants as unloaded;
+ghost use Rattle.weak_part_calls.specs.atomic_shared.Places.{named};
+ghost use Rattle.weak_part_calls.specs.atomic_weak.Places.{named as weakly_named};
+ghost use Rattle.weak_part_calls.specs.part_calls.Parts.{HasBeside, as_part, seen_by};
+ghost use Rattle.linked_queue.specs.queue_law.declared.view.Form.TheVariants.{Double};
+ghost use Rattle.linked_queue.specs.queue_law.Views.{first_view};
 ghost use Rattle.linked_queue.specs.Leaving.{found_by, with_found};
 ghost use Rattle.linked_queue.specs.Pushes.{IsWhyUnlinked, SeesTail};
 ghost use Rattle.linked_queue.specs.Queues.{IsAttached, beside_eyes};
@@ -19,10 +19,11 @@ ghost use Rattle.double_link_queue.specs.Leaving.{LeavesBoth};
 ghost use Rattle.double_link_queue.specs.Pushes.{SeesBack, SeesBefore, weakly_found_by};
 ghost use Rattle.double_link_queue.specs.Steps.{CountsBefore, FindsBefore, LoadsBack, MissesBack, UpgradesBack};
 
-use acquire_retire::{Domain, Seat, SlotId};
-use counted_handles::{LoadError, Strong, Weak, WeakPlace};
-use queue_protocol::{FindEnded, HasQueue, LearnBefore, QueueLaw};
-use weak_part_calls::{UpgradeError, drop_weak, try_load_weak, upgrade};
+use linked_queue::{FindEnded, HasQueue, LearnBefore, QueueLaw};
+use weak_part_calls::{
+    Domain, LoadError, Seat, SlotId, Strong, UpgradeError, Weak, WeakPlace, drop_weak,
+    try_load_weak, upgrade,
+};
 
 /// A reference to the node before, if it lives.
 pub(crate) fn find_before<S, P: HasQueue<S>>(

@@ -1,11 +1,11 @@
 //! A pop, in one try. It is that of a linked queue, since the head of a queue is the same in both of its forms.
 ghost use Rattle.std.specs.Prelude.{◌≡◌, ◌<◌, IfErr, IfOk, IfSome, None, Some};
-ghost use Rattle.plain_state.specs.Lists.{times};
-ghost use Rattle.core_events.specs.Steps.{HasRoom};
-ghost use Rattle.atomic_shared.specs.Places.{named};
-ghost use Rattle.control_word.specs.Resting.{IsAtRest, IsSpent};
+ghost use Rattle.weak_part_calls.specs.plain_state.Lists.{times};
+ghost use Rattle.weak_part_calls.specs.core_events.Steps.{HasRoom};
+ghost use Rattle.weak_part_calls.specs.atomic_shared.Places.{named};
+ghost use Rattle.weak_part_calls.specs.control_word.Resting.{IsAtRest, IsSpent};
 ghost use Rattle.linked_queue.specs.declared.queue.PopError.TheVariants as unpopped;
-ghost use Rattle.part_calls.specs.Parts.{StaysBeside, as_part, seen_by};
+ghost use Rattle.weak_part_calls.specs.part_calls.Parts.{StaysBeside, as_part, seen_by};
 ghost use Rattle.linked_queue.specs.Leaving.{found_by};
 ghost use Rattle.linked_queue.specs.Losses.{IsWhyUnpopped};
 ghost use Rattle.linked_queue.specs.Pops.{OwnsBoth, Pops, PopsAtHead, PopsAtHeadWith, PopsWith, both_by, named_both};
@@ -13,10 +13,8 @@ ghost use Rattle.linked_queue.specs.Queues.{IsAttached};
 ghost use Rattle.double_link_queue.specs.Queues.{IsDoubleOf};
 
 use crate::queue::DoubleQueue;
-use acquire_retire::{Domain, Seat};
-use counted_handles::Strong;
-use linked_queue::{PopError, pop_at, pop_with_at};
-use queue_protocol::HasQueue;
+use linked_queue::{HasQueue, PopError, pop_at, pop_with_at};
+use weak_part_calls::{Domain, Seat, Strong};
 
 impl DoubleQueue {
     /// Takes the first item off the queue, in one try, and answers a reference to it. `None` only where nothing was

@@ -5,14 +5,14 @@
 //! the node before to its own. It gives up in the end what it walked over.
 
 ghost use Rattle.std.specs.Prelude.{◌≡◌, ◌<◌, ◌≤◌, ◌+◌, IfErr, IfOk, OnErr, Some};
-ghost use Rattle.plain_state.specs.Lists.{times};
-ghost use Rattle.core_events.specs.Steps.{HasRoom};
-ghost use Rattle.control_word.specs.Resting.{IsAtRest, IsSpent};
-ghost use Rattle.slot_store.specs.declared.making.MakeError.TheVariants as refused;
-ghost use Rattle.queue_law.specs.declared.view.Form.TheVariants.{Double};
-ghost use Rattle.queue_law.specs.Pushes.{carried_item};
-ghost use Rattle.part_calls.specs.Parts.{HasBeside, StaysBeside, as_part, seen_by};
-ghost use Rattle.queue_law.specs.Views.{first_view};
+ghost use Rattle.weak_part_calls.specs.plain_state.Lists.{times};
+ghost use Rattle.weak_part_calls.specs.core_events.Steps.{HasRoom};
+ghost use Rattle.weak_part_calls.specs.control_word.Resting.{IsAtRest, IsSpent};
+ghost use Rattle.weak_part_calls.specs.slot_store.declared.making.MakeError.TheVariants as refused;
+ghost use Rattle.linked_queue.specs.queue_law.declared.view.Form.TheVariants.{Double};
+ghost use Rattle.linked_queue.specs.queue_law.Pushes.{carried_item};
+ghost use Rattle.weak_part_calls.specs.part_calls.Parts.{HasBeside, StaysBeside, as_part, seen_by};
+ghost use Rattle.linked_queue.specs.queue_law.Views.{first_view};
 ghost use Rattle.linked_queue.specs.Leaving.{Leaves, handle_by, with_found};
 ghost use Rattle.linked_queue.specs.Pops.{item_in};
 ghost use Rattle.linked_queue.specs.Pushes.{HasLoad, IsWhyRefused, LoadsNode, UsesNone, back_of, cause_of, pushed_too};
@@ -27,13 +27,8 @@ use crate::carrying::carry;
 use crate::chaining::push_node;
 use crate::laying::make_node;
 use crate::queue::DoubleQueue;
-use acquire_retire::{Domain, Seat};
-use atomic_shared::LoadError;
-use counted_handles::Strong;
-use linked_queue::{PushError, PushRefused};
-use part_calls::{copy_strong, drop_strong};
-use queue_protocol::{HasQueue, QueueLaw};
-use slot_store::MakeError;
+use linked_queue::{HasQueue, MakeError, PushError, PushRefused, QueueLaw};
+use weak_part_calls::{Domain, LoadError, Seat, Strong, copy_strong, drop_strong};
 
 impl DoubleQueue {
     /// Appends an item to the queue, in one try, and gives the seat's reference to it. `Again` where another seat was

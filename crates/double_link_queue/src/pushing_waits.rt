@@ -1,14 +1,14 @@
 //! A push that tries again until no other seat is quicker. It keeps its one node through its tries.
 ghost use Rattle.std.specs.Prelude.{◌≡◌, ◌<◌, ◌≤◌, ◌+◌, IfErr, IfOk, OnErr, Some};
-ghost use Rattle.plain_state.specs.Lists.{times};
-ghost use Rattle.core_events.specs.Steps.{HasRoom};
-ghost use Rattle.core_events.specs.Views.{without};
-ghost use Rattle.control_word.specs.Resting.{IsAtRest, IsSpent};
-ghost use Rattle.slot_store.specs.declared.making.MakeError.TheVariants as unmade;
-ghost use Rattle.queue_law.specs.declared.view.Form.TheVariants.{Double};
-ghost use Rattle.queue_law.specs.Pushes.{carried_item};
-ghost use Rattle.queue_law.specs.Views.{first_view};
-ghost use Rattle.part_calls.specs.Parts.{HasBeside, StaysBeside, as_part, seen_by};
+ghost use Rattle.weak_part_calls.specs.plain_state.Lists.{times};
+ghost use Rattle.weak_part_calls.specs.core_events.Steps.{HasRoom};
+ghost use Rattle.weak_part_calls.specs.core_events.Views.{without};
+ghost use Rattle.weak_part_calls.specs.control_word.Resting.{IsAtRest, IsSpent};
+ghost use Rattle.weak_part_calls.specs.slot_store.declared.making.MakeError.TheVariants as unmade;
+ghost use Rattle.linked_queue.specs.queue_law.declared.view.Form.TheVariants.{Double};
+ghost use Rattle.linked_queue.specs.queue_law.Pushes.{carried_item};
+ghost use Rattle.linked_queue.specs.queue_law.Views.{first_view};
+ghost use Rattle.weak_part_calls.specs.part_calls.Parts.{HasBeside, StaysBeside, as_part, seen_by};
 ghost use Rattle.linked_queue.specs.Leaving.{handle_by, with_found};
 ghost use Rattle.linked_queue.specs.Pops.{item_in};
 ghost use Rattle.linked_queue.specs.Pushes.{HasLoad, UsesNone, pushed_too};
@@ -23,15 +23,10 @@ use crate::chaining::take_last;
 use crate::exchanging::land;
 use crate::pushing::load_node;
 use crate::queue::DoubleQueue;
-use acquire_retire::{Domain, Seat, SlotId};
-use atomic_shared::LoadError;
-use counted_handles::{Spent, Strong};
 use crossbeam_utils::Backoff;
-use linked_queue::PushRefused;
-use part_calls::drop_strong;
-use queue_protocol::{HasQueue, QueueLaw};
-use slot_store::MakeError;
+use linked_queue::{HasQueue, MakeError, PushRefused, QueueLaw};
 use std::sync::Wait;
+use weak_part_calls::{Domain, LoadError, Seat, SlotId, Spent, Strong, drop_strong};
 
 impl DoubleQueue {
     /// Appends an item to the queue, and gives the seat's reference to it. It tries again as long as another seat is

@@ -1,23 +1,22 @@
 //! How a queue is shut.
 ghost use Rattle.std.specs.Prelude.{◌≡◌, ◌<◌, None};
-ghost use Rattle.plain_state.specs.declared.act.EventPlace.TheVariants.{Cell};
-ghost use Rattle.core_events.specs.Steps.{HasRoom};
-ghost use Rattle.control_word.specs.Resting.{IsAtRest};
-ghost use Rattle.domain_rule.specs.Views.{IsAlone};
-ghost use Rattle.retiring_stores.specs.Exchanging.{Stores};
-ghost use Rattle.queue_law.specs.Lessons.{TellsNothing};
-ghost use Rattle.queue_law.specs.Opening.{shut_head_next, shut_tail_next};
-ghost use Rattle.part_calls.specs.Parts.{HasBeside, StaysBeside, as_part, seen_by};
-ghost use Rattle.queue_law.specs.Views.{first_view};
+ghost use Rattle.weak_part_calls.specs.plain_state.declared.act.EventPlace.TheVariants.{Cell};
+ghost use Rattle.weak_part_calls.specs.core_events.Steps.{HasRoom};
+ghost use Rattle.weak_part_calls.specs.control_word.Resting.{IsAtRest};
+ghost use Rattle.weak_part_calls.specs.domain_rule.Views.{IsAlone};
+ghost use Rattle.weak_part_calls.specs.retiring_stores.Exchanging.{Stores};
+ghost use Rattle.linked_queue.specs.queue_law.Lessons.{TellsNothing};
+ghost use Rattle.linked_queue.specs.queue_law.Opening.{shut_head_next, shut_tail_next};
+ghost use Rattle.weak_part_calls.specs.part_calls.Parts.{HasBeside, StaysBeside, as_part, seen_by};
+ghost use Rattle.linked_queue.specs.queue_law.Views.{first_view};
 ghost use Rattle.linked_queue.specs.Leaving.{Leaves};
 ghost use Rattle.linked_queue.specs.Queues.{ends_of};
 ghost use Rattle.double_link_queue.specs.Queues.{IsDoubleOf};
 ghost use Rattle.linked_queue.specs.Shuts.{CanShut, Shuts, half_shut_in, shut_in};
 
 use crate::queue::DoubleQueue;
-use acquire_retire::{Domain, Seat};
-use part_calls::{Place, store};
-use queue_protocol::{HasQueue, QueueLaw, ShutHead, ShutTail};
+use linked_queue::{HasQueue, QueueLaw, ShutHead, ShutTail};
+use weak_part_calls::{Domain, Place, Seat, store};
 
 impl DoubleQueue {
     /// Shuts the queue: puts null into the head cell and then into the tail cell, and notes what still waited as left.

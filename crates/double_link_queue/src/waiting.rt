@@ -1,10 +1,10 @@
 //! Calls that try again until no other seat is quicker.
 ghost use Rattle.std.specs.Prelude.{◌≡◌, ◌<◌, IfOk, IfSome, OnErr, None};
-ghost use Rattle.plain_state.specs.Lists.{times};
-ghost use Rattle.core_events.specs.Steps.{HasRoom};
-ghost use Rattle.atomic_shared.specs.Places.{named};
-ghost use Rattle.control_word.specs.Resting.{IsAtRest, IsSpent};
-ghost use Rattle.part_calls.specs.Parts.{StaysBeside, as_part, seen_by};
+ghost use Rattle.weak_part_calls.specs.plain_state.Lists.{times};
+ghost use Rattle.weak_part_calls.specs.core_events.Steps.{HasRoom};
+ghost use Rattle.weak_part_calls.specs.atomic_shared.Places.{named};
+ghost use Rattle.weak_part_calls.specs.control_word.Resting.{IsAtRest, IsSpent};
+ghost use Rattle.weak_part_calls.specs.part_calls.Parts.{StaysBeside, as_part, seen_by};
 ghost use Rattle.linked_queue.specs.Attaching.{attached_in};
 ghost use Rattle.linked_queue.specs.Leaving.{Leaves, found_by};
 ghost use Rattle.linked_queue.specs.Losses.{LosesAtHead};
@@ -14,12 +14,10 @@ ghost use Rattle.double_link_queue.specs.Queues.{IsDoubleOf};
 ghost use Rattle.linked_queue.specs.Waits.{AttachesAtLast, IsWhyShort, PopsAtLast};
 
 use crate::queue::DoubleQueue;
-use acquire_retire::{Domain, Seat};
-use counted_handles::{Spent, Strong};
 use crossbeam_utils::Backoff;
-use linked_queue::PopError;
-use queue_protocol::HasQueue;
+use linked_queue::{HasQueue, PopError};
 use std::sync::Wait;
+use weak_part_calls::{Domain, Seat, Spent, Strong};
 
 impl DoubleQueue {
     /// Looks at the head cell until it finds a slot there, so it may wait for seat 0, which lays the queue. Then the

@@ -5,7 +5,7 @@ use Rattle.std.proofs.lemmas.Bool.Decides.{nat_tests}
 use Rattle.std.specs.List.{filter}
 use Rattle.std.proofs.lemmas.List.{append_assoc, append-nil, drop_all, drop_more, take_all, take_more, length-append, length-drop, take-append-drop}
 use Rattle.std.proofs.lemmas.List.Elements.{filter-append}
-use Rattle.plain_state.specs.declared.slot.SlotId.{SlotId}
+use Rattle.core_functions.specs.plain_state.declared.slot.SlotId.{SlotId}
 
 -- so many of `all` were looked at: those that pass the test were joined to `old`, and the others to the end
 pub record IsTurned (free : SlotId → Bool) (all old : List SlotId) (i : ℕ) (waiting ripe : List SlotId)

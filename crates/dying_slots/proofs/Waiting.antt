@@ -6,11 +6,11 @@ use Rattle.std.proofs.lemmas.Bool.{cases_eq}
 use Rattle.std.proofs.lemmas.Bool.Decides.{nat_tests}
 use Rattle.std.proofs.lemmas.List.Elements.{filter-append}
 use Rattle.std.proofs.lemmas.List.Sums.{length-filter, count_by-le-length}
-use Rattle.plain_state.specs.declared.slot.SlotId.{SlotId}
-use Rattle.plain_state.specs.Ejection.{Announcements, ripened, ripens}
-use Rattle.plain_state.specs.Lists.{times, is_slot}
-use Rattle.plain_state.proofs.Kit.{slot_is, held_same, held_other, times_none, times_cons, times_append}
-use Rattle.core_events.specs.Views.{without}
+use Rattle.core_functions.specs.plain_state.declared.slot.SlotId.{SlotId}
+use Rattle.core_functions.specs.plain_state.Ejection.{Announcements, ripened, ripens}
+use Rattle.core_functions.specs.plain_state.Lists.{times, is_slot}
+use Rattle.core_functions.proofs.Below.plain_state.Kit.{slot_is, held_same, held_other, times_none, times_cons, times_append}
+use Rattle.core_functions.specs.core_events.Views.{without}
 use Rattle.dying_slots.specs.Dying.{is_free, waiting_of}
 
 -- one that stands in a list of ripe slots doesn't wait

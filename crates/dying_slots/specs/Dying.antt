@@ -1,10 +1,10 @@
 -- What a seat keeps of the slots that it has ended and not yet destroyed.
 use Rattle.std.specs.Prelude.{ℕ, ◌==◌, not, nat_lt, Bool, List, ◌++◌}
 use Rattle.std.specs.List.{filter}
-use Rattle.plain_state.specs.declared.slot.Kind.TheVariants.{Disposal}
-use Rattle.plain_state.specs.declared.slot.SlotId.{SlotId}
-use Rattle.plain_state.specs.Ejection.{Announcements}
-use Rattle.plain_state.specs.Lists.{times}
+use Rattle.core_functions.specs.plain_state.declared.slot.Kind.TheVariants.{Disposal}
+use Rattle.core_functions.specs.plain_state.declared.slot.SlotId.{SlotId}
+use Rattle.core_functions.specs.plain_state.Ejection.{Announcements}
+use Rattle.core_functions.specs.plain_state.Lists.{times}
 
 -- those that wait to become ripe and those that are ripe, in order, and for how many of each there is room
 pub record DyingSlots : Type 0 where

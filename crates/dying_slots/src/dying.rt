@@ -2,11 +2,10 @@
 ghost use Rattle.std.specs.Prelude.{◌≡◌, ◌+◌, ◌<◌, ◌≤◌, ◌↔◌, [], ◌∷◌, ◌++◌, length, not, IfOk, IsNone, IfSome, slice_index_or};
 ghost use Rattle.std.specs.List.{filter};
 ghost use Rattle.std.specs.VecDeque.{deque_capacity, deque_len};
-ghost use Rattle.core_events.specs.Views.{without};
+ghost use Rattle.core_functions.specs.core_events.Views.{without};
 ghost use Rattle.dying_slots.specs.Dying.{is_free, ripening};
 
-use out_of_memory::OutOfMemory;
-use plain_state::{Announced, Kind, SlotId};
+use core_functions::{Announced, Kind, OutOfMemory, SlotId};
 use std::alloc::Global;
 use std::collections::VecDeque;
 use std::marker::Model;

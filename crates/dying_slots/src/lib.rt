@@ -18,7 +18,9 @@
 #![tactic(auto)]
 
 mod dying;
-#[cfg(test)]
-mod tests;
 
+pub use core_functions::{
+    Batch, OutOfMemory, Seen, bit_alone, first_bad, first_words, found_in, given_up, has_bit,
+    has_slot, held_as, kind_of, note_index, place_index, slot_index, ticket_index,
+};
 pub use dying::Dying;

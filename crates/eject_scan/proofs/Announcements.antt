@@ -4,8 +4,8 @@ use Rattle.std.specs.Prelude.{◌==◌}
 use Rattle.std.specs.List.{fold}
 use Rattle.std.proofs.lemmas.Bool.Decides.{nat_tests}
 use Rattle.std.proofs.lemmas.List.Sums.{fold-append}
-use Rattle.plain_state.specs.declared.slot.Kind.{Kind}
-use Rattle.plain_state.specs.declared.slot.SlotId.{SlotId}
+use Rattle.announce_slots.specs.plain_state.declared.slot.Kind.{Kind}
+use Rattle.announce_slots.specs.plain_state.declared.slot.SlotId.{SlotId}
 use Rattle.announce_slots.specs.Words.{code}
 use Rattle.announce_slots.specs.Seen.{announced_in, seen_times}
 use Rattle.announce_slots.proofs.Counting.{seen_cons, seen_none, word_one}

@@ -2,8 +2,8 @@
 use Rattle.std.specs.Prelude.{ℕ, ◌<◌, ◌+◌, ◌==◌, if◌then◌else◌, List, [], ◌∷◌}
 use Rattle.std.specs.List.{fold, sum_by}
 use Rattle.std.proofs.Math.Dec.{leb}
-use Rattle.plain_state.specs.declared.slot.Kind.{Kind}
-use Rattle.plain_state.specs.declared.slot.SlotId.{SlotId}
+use Rattle.announce_slots.specs.plain_state.declared.slot.Kind.{Kind}
+use Rattle.announce_slots.specs.plain_state.declared.slot.SlotId.{SlotId}
 use Rattle.announce_slots.specs.Words.{code}
 use Rattle.eject_scan.specs.declared.seen.Row.{Row}
 

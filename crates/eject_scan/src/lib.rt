@@ -18,8 +18,6 @@
 
 mod laws;
 mod seen;
-#[cfg(test)]
-mod tests;
 
 pub use laws::laws_of_announcements;
 pub use seen::{Row, Seen};

@@ -3,9 +3,8 @@ ghost use Rattle.std.specs.Prelude.{◌≡◌, ◌<◌, ◌≤◌, ◌+◌, ◌-
 ghost use Rattle.eject_scan.specs.Seen.{IsAscending, announced, note_in, total, with_word};
 ghost use Rattle.eject_scan.specs.Rows.{IsGap, StandsAt};
 
-use announce_slots::announced_as;
+use announce_slots::{Announced, Kind, SlotId, announced_as};
 use out_of_memory::OutOfMemory;
-use plain_state::{Announced, Kind, SlotId};
 use std::alloc::Global;
 use std::marker::Model;
 

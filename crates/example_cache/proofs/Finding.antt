@@ -1,27 +1,27 @@
 -- What a load of the cache's cell with the deed RecallValue leaves of a seat.
 use Rattle.std.proofs.Common.{◌≡◌, ℕ, suc, zero, List, [], ◌∷◌, ◌++◌, refl, sym, ap, subst, ◌∙◌, arith, Option, Some, None}
 use Rattle.std.specs.Prelude.{Err, IfOk, Ok, Result, if◌then◌else◌}
-use Rattle.plain_state.specs.declared.act.EventPlace.TheVariants.{WeakCell}
-use Rattle.plain_state.specs.declared.act.PlainAct.{PlainAct}
-use Rattle.plain_state.specs.declared.act.PlainAct.TheVariants as plain
-use Rattle.plain_state.specs.declared.slot.SlotId.{SlotId}
-use Rattle.plain_state.specs.Lists.{times}
-use Rattle.plain_protocol.specs.Owns.{OwnPart, HasSlot}
-use Rattle.core_events.specs.declared.view.CoreView.{CoreView}
-use Rattle.core_events.specs.Shows.{show_seat}
-use Rattle.core_events.specs.Words.{slot_in}
-use Rattle.core_law.proofs.Kit.{one_same, times_push}
-use Rattle.counted_handles.specs.Handles.{Handle}
-use Rattle.counted_handles.specs.declared.refusal.LoadError.{LoadError}
-use Rattle.counted_handles.specs.declared.refusal.LoadError.TheVariants as refused
-use Rattle.domain_rule.specs.Views.{object_in, own_of}
-use Rattle.acquire_retire.specs.Domains.{DomainState}
-use Rattle.acquire_retire.specs.Seats.{SeatState}
-use Rattle.control_word.specs.Resting.{IsAtRest}
-use Rattle.protected_loads.specs.Loads.{Misses}
-use Rattle.protected_loads.specs.References.{Loads}
-use Rattle.protected_loads.proofs.Learning.{batch, batch_loaded, batch_moved, checked, client_found, client_moved, client_null, has_found, known_found}
-use Rattle.protocol_pairs.specs.Values.{value_of}
+use Rattle.cdrc.specs.plain_state.declared.act.EventPlace.TheVariants.{WeakCell}
+use Rattle.cdrc.specs.plain_state.declared.act.PlainAct.{PlainAct}
+use Rattle.cdrc.specs.plain_state.declared.act.PlainAct.TheVariants as plain
+use Rattle.cdrc.specs.plain_state.declared.slot.SlotId.{SlotId}
+use Rattle.cdrc.specs.plain_state.Lists.{times}
+use Rattle.cdrc.specs.plain_protocol.Owns.{OwnPart, HasSlot}
+use Rattle.cdrc.specs.core_events.declared.view.CoreView.{CoreView}
+use Rattle.cdrc.specs.core_events.Shows.{show_seat}
+use Rattle.cdrc.specs.core_events.Words.{slot_in}
+use Rattle.cdrc.proofs.Below.core_law.Kit.{one_same, times_push}
+use Rattle.cdrc.specs.counted_handles.Handles.{Handle}
+use Rattle.cdrc.specs.counted_handles.declared.refusal.LoadError.{LoadError}
+use Rattle.cdrc.specs.counted_handles.declared.refusal.LoadError.TheVariants as refused
+use Rattle.cdrc.specs.domain_rule.Views.{object_in, own_of}
+use Rattle.cdrc.specs.acquire_retire.Domains.{DomainState}
+use Rattle.cdrc.specs.acquire_retire.Seats.{SeatState}
+use Rattle.cdrc.specs.control_word.Resting.{IsAtRest}
+use Rattle.cdrc.specs.protected_loads.Loads.{Misses}
+use Rattle.cdrc.specs.protected_loads.References.{Loads}
+use Rattle.cdrc.proofs.Below.protected_loads.Learning.{batch, batch_loaded, batch_moved, checked, client_found, client_moved, client_null, has_found, known_found}
+use Rattle.cdrc.specs.protocol_pairs.Values.{value_of}
 use Rattle.example_cache.specs.Views.{View}
 use Rattle.example_cache.specs.Deeds.{RecallTells, recall_next}
 use Rattle.example_cache.specs.Calls.{Finds, FoundEnded, HasEnded, recalled_too, weak_named}

@@ -1,10 +1,10 @@
 -- The law of a cache: its weak cell holds the object of the value that was remembered last. The cache doesn't keep the
 -- object alive, but its slot is given to no other one as long as the cell holds it.
 use Rattle.std.specs.Prelude.{ℕ, ◌≡◌, List, slice_index_or, Some, None}
-use Rattle.plain_state.specs.declared.slot.SlotId.{SlotId}
-use Rattle.plain_state.specs.State.{Plain, slot_at, stage_at}
-use Rattle.plain_protocol.specs.Acts.{Owned}
-use Rattle.plain_protocol.specs.Calm.{IsMade}
+use Rattle.cdrc.specs.plain_state.declared.slot.SlotId.{SlotId}
+use Rattle.cdrc.specs.plain_state.State.{Plain, slot_at, stage_at}
+use Rattle.cdrc.specs.plain_protocol.Acts.{Owned}
+use Rattle.cdrc.specs.plain_protocol.Calm.{IsMade}
 use Rattle.example_cache.specs.Views.{View, WasRecalled, WasRemembered}
 
 -- the weak cell holds this slot

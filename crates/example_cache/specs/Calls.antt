@@ -1,18 +1,18 @@
 -- What the calls on a cache leave of a seat.
 use Rattle.std.specs.Prelude.{ℕ, ◌≡◌, ◌<◌, ◌+◌, ◌≤◌, List, [], ◌∷◌, ◌++◌, Option, Some, None}
-use Rattle.plain_state.specs.declared.act.EventPlace.TheVariants.{WeakCell}
-use Rattle.plain_state.specs.declared.slot.SlotId.{SlotId}
-use Rattle.plain_state.specs.Lists.{times}
-use Rattle.counted_handles.specs.Handles.{Handle}
-use Rattle.atomic_shared.specs.Places as shared
-use Rattle.atomic_weak.specs.Places as weakly
-use Rattle.domain_rule.specs.Views.{object_in}
-use Rattle.acquire_retire.specs.Calls.{IsSameView, same_view}
-use Rattle.acquire_retire.specs.Domains.{DomainState}
-use Rattle.acquire_retire.specs.Seats.{SeatState}
-use Rattle.control_word.specs.Calls.{FindsEnded}
-use Rattle.protected_loads.specs.Loads.{Misses}
-use Rattle.protected_loads.specs.References.{Loads}
+use Rattle.cdrc.specs.plain_state.declared.act.EventPlace.TheVariants.{WeakCell}
+use Rattle.cdrc.specs.plain_state.declared.slot.SlotId.{SlotId}
+use Rattle.cdrc.specs.plain_state.Lists.{times}
+use Rattle.cdrc.specs.counted_handles.Handles.{Handle}
+use Rattle.cdrc.specs.atomic_shared.Places as shared
+use Rattle.cdrc.specs.atomic_weak.Places as weakly
+use Rattle.cdrc.specs.domain_rule.Views.{object_in}
+use Rattle.cdrc.specs.acquire_retire.Calls.{IsSameView, same_view}
+use Rattle.cdrc.specs.acquire_retire.Domains.{DomainState}
+use Rattle.cdrc.specs.acquire_retire.Seats.{SeatState}
+use Rattle.cdrc.specs.control_word.Calls.{FindsEnded}
+use Rattle.cdrc.specs.protected_loads.Loads.{Misses}
+use Rattle.cdrc.specs.protected_loads.References.{Loads}
 use Rattle.example_cache.specs.Views.{View}
 use Rattle.example_cache.specs.Deeds.{RecallTells, recall_next}
 

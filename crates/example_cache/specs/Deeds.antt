@@ -1,13 +1,13 @@
 -- The deeds on a cache: when each is ready, the next view, and what it tells.
 use Rattle.std.specs.Prelude.{ℕ, zero, suc, ◌≡◌, ◌<◌, ◌⊎◌, List, [], ◌∷◌, ◌++◌, Option, Some, None}
-use Rattle.plain_state.specs.declared.act.EventPlace.TheVariants.{WeakCell}
-use Rattle.plain_state.specs.declared.act.PlainAct.{PlainAct}
-use Rattle.plain_state.specs.declared.act.PlainAct.TheVariants as act
-use Rattle.plain_state.specs.declared.slot.SlotId.{SlotId}
-use Rattle.plain_state.specs.Lists.{times}
-use Rattle.plain_state.specs.State.{Plain, seat_at, slot_at}
-use Rattle.plain_protocol.specs.Owns.{OwnPart, HasSlot}
-use Rattle.protocol_pairs.specs.Values.{value_of}
+use Rattle.cdrc.specs.plain_state.declared.act.EventPlace.TheVariants.{WeakCell}
+use Rattle.cdrc.specs.plain_state.declared.act.PlainAct.{PlainAct}
+use Rattle.cdrc.specs.plain_state.declared.act.PlainAct.TheVariants as act
+use Rattle.cdrc.specs.plain_state.declared.slot.SlotId.{SlotId}
+use Rattle.cdrc.specs.plain_state.Lists.{times}
+use Rattle.cdrc.specs.plain_state.State.{Plain, seat_at, slot_at}
+use Rattle.cdrc.specs.plain_protocol.Owns.{OwnPart, HasSlot}
+use Rattle.cdrc.specs.protocol_pairs.Values.{value_of}
 use Rattle.example_cache.specs.Views.{View}
 use Rattle.example_cache.specs.Cache.{Holds}
 

@@ -3,17 +3,17 @@ use Rattle.std.proofs.Common.{◌≡◌, ⊎_elim, ℕ, ◌<◌, List, length, g
 use Rattle.std.specs.Prelude.{Contains, slice_set}
 use Rattle.std.proofs.lemmas.Bool.{cases_lt}
 use Rattle.std.proofs.lemmas.List.{get_or_past, get_or-replicate, length-replicate}
-use Rattle.plain_state.specs.declared.act.PlainAct.{PlainAct}
-use Rattle.plain_state.specs.declared.act.PlainAct.TheVariants as act
-use Rattle.plain_state.specs.declared.slot.SlotId.{SlotId}
-use Rattle.plain_state.specs.State.{Plain, slot_at, stage_at}
-use Rattle.plain_state.specs.Lawful.{Lawful}
-use Rattle.plain_state.specs.Steps.{Does}
-use Rattle.plain_protocol.specs.Calm.{IsMade}
-use Rattle.plain_protocol.specs.Laws.{Starts, KeptByCalm, KeptByForeign, KeptByLeave}
-use Rattle.protocol_pairs.proofs.Leaves.{calm_is_foreign, foreign_leaves}
-use Rattle.protocol_pairs.proofs.Notes.{none_noted, noted_after, noted_before, noted_cases, noted_still}
-use Rattle.protocol_pairs.proofs.WeaklyHeld.{goes_on, weak_cell_times}
+use Rattle.cdrc.specs.plain_state.declared.act.PlainAct.{PlainAct}
+use Rattle.cdrc.specs.plain_state.declared.act.PlainAct.TheVariants as act
+use Rattle.cdrc.specs.plain_state.declared.slot.SlotId.{SlotId}
+use Rattle.cdrc.specs.plain_state.State.{Plain, slot_at, stage_at}
+use Rattle.cdrc.specs.plain_state.Lawful.{Lawful}
+use Rattle.cdrc.specs.plain_state.Steps.{Does}
+use Rattle.cdrc.specs.plain_protocol.Calm.{IsMade}
+use Rattle.cdrc.specs.plain_protocol.Laws.{Starts, KeptByCalm, KeptByForeign, KeptByLeave}
+use Rattle.cdrc.proofs.Below.protocol_pairs.Leaves.{calm_is_foreign, foreign_leaves}
+use Rattle.cdrc.proofs.Below.protocol_pairs.Notes.{none_noted, noted_after, noted_before, noted_cases, noted_still}
+use Rattle.cdrc.proofs.Below.protocol_pairs.WeaklyHeld.{goes_on, weak_cell_times}
 use Rattle.example_cache.specs.Views.{View, WasRemembered, joined, no_view, view_at}
 use Rattle.example_cache.specs.Cache.{Cache, Holds, owns}
 

@@ -3,23 +3,23 @@ use Rattle.std.proofs.Common.{◌≡◌, ⊎_elim, ℕ, suc, ◌<◌, List, [], 
 use Rattle.std.specs.Prelude.{Contains, slice_set}
 use Rattle.std.proofs.lemmas.List.{get_or-set_same, set-get_or}
 use Rattle.std.proofs.lemmas.List.Elements.{Contains-append_left, Contains-append_cases, Contains-push}
-use Rattle.plain_state.specs.declared.act.EventPlace.TheVariants.{WeakCell}
-use Rattle.plain_state.specs.declared.act.PlainAct.{PlainAct}
-use Rattle.plain_state.specs.declared.act.PlainAct.TheVariants as act
-use Rattle.plain_state.specs.declared.slot.SlotId.{SlotId}
-use Rattle.plain_state.specs.declared.slot.Stage.{Stage}
-use Rattle.plain_state.specs.declared.slot.Stage.TheVariants.{Live}
-use Rattle.plain_state.specs.State.{Plain, new_slot, seat_at, slot_at, stage_at}
-use Rattle.plain_state.specs.Steps.{Does, word_of}
-use Rattle.plain_protocol.specs.Acts.{IsCalm}
-use Rattle.plain_protocol.specs.Calm.{IsMade}
-use Rattle.plain_protocol.specs.Laws.{Meets, Keeps}
-use Rattle.plain_protocol.specs.Owns.{has_slot, object_of, own_part}
-use Rattle.protocol_pairs.specs.Values.{value_of}
-use Rattle.protocol_pairs.proofs.Held.{held_has}
-use Rattle.protocol_pairs.proofs.Notes.{noted_here}
-use Rattle.protocol_pairs.proofs.Owning.{owned_live}
-use Rattle.protocol_pairs.proofs.Values.{value_had, value_in}
+use Rattle.cdrc.specs.plain_state.declared.act.EventPlace.TheVariants.{WeakCell}
+use Rattle.cdrc.specs.plain_state.declared.act.PlainAct.{PlainAct}
+use Rattle.cdrc.specs.plain_state.declared.act.PlainAct.TheVariants as act
+use Rattle.cdrc.specs.plain_state.declared.slot.SlotId.{SlotId}
+use Rattle.cdrc.specs.plain_state.declared.slot.Stage.{Stage}
+use Rattle.cdrc.specs.plain_state.declared.slot.Stage.TheVariants.{Live}
+use Rattle.cdrc.specs.plain_state.State.{Plain, new_slot, seat_at, slot_at, stage_at}
+use Rattle.cdrc.specs.plain_state.Steps.{Does, word_of}
+use Rattle.cdrc.specs.plain_protocol.Acts.{IsCalm}
+use Rattle.cdrc.specs.plain_protocol.Calm.{IsMade}
+use Rattle.cdrc.specs.plain_protocol.Laws.{Meets, Keeps}
+use Rattle.cdrc.specs.plain_protocol.Owns.{has_slot, object_of, own_part}
+use Rattle.cdrc.specs.protocol_pairs.Values.{value_of}
+use Rattle.cdrc.proofs.Below.protocol_pairs.Held.{held_has}
+use Rattle.cdrc.proofs.Below.protocol_pairs.Notes.{noted_here}
+use Rattle.cdrc.proofs.Below.protocol_pairs.Owning.{owned_live}
+use Rattle.cdrc.proofs.Below.protocol_pairs.Values.{value_had, value_in}
 use Rattle.example_cache.specs.Views.{View, WasRemembered, no_view, view_at}
 use Rattle.example_cache.specs.Cache.{Cache, Holds}
 use Rattle.example_cache.specs.Deeds.{OwnsIt, RecallReady, RecallTells, RememberReady, RememberTells, recall_next, remember_next, value_put}

@@ -3,8 +3,7 @@ ghost use Rattle.example_cache.specs.Deeds.{RecallReady, RecallTells, RememberRe
 ghost use Rattle.example_cache.specs.Makes.{recall_keeps, remember_keeps};
 
 use crate::law::CacheLaw;
-use plain_protocol::Deed;
-use plain_state::PayloadKind;
+use cdrc::{Deed, PayloadKind};
 
 /// The weak cell gets an object that the seat owns strongly, whose value joins those that the seat remembered; or null.
 #[derive(Clone, Copy, Debug, Drop)]

@@ -5,8 +5,7 @@ ghost use Rattle.example_cache.specs.Views.{joined, no_view};
 ghost use Rattle.example_cache.specs.Kept.{cache_calm, cache_foreign, cache_leave, cache_start};
 
 use crate::view::View;
-use plain_protocol::Protocol;
-use plain_state::PayloadKind;
+use cdrc::{PayloadKind, Protocol};
 use std::marker::PhantomData;
 
 /// The law of a cache in one weak cell, whose values are payloads of the kind `K`.

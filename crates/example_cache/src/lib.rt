@@ -19,8 +19,6 @@ mod law;
 mod promises;
 mod recalling;
 mod remembering;
-#[cfg(test)]
-mod tests;
 mod view;
 
 pub use deeds::{RecallValue, RememberValue};

@@ -1,12 +1,12 @@
 //! What the law gives a user of a cache.
 ghost use Rattle.std.specs.Prelude.{ℕ, List};
-ghost use Rattle.plain_state.specs.State.{Plain, slot_at};
-ghost use Rattle.plain_state.specs.declared.slot.SlotId.{SlotId};
+ghost use Rattle.cdrc.specs.plain_state.State.{Plain, slot_at};
+ghost use Rattle.cdrc.specs.plain_state.declared.slot.SlotId.{SlotId};
 ghost use Rattle.example_cache.specs.Views.{View, WasRecalled, WasRemembered};
 ghost use Rattle.example_cache.specs.Cache.{Cache, Holds};
 
 use crate::law::CacheLaw;
-use plain_state::PayloadKind;
+use cdrc::PayloadKind;
 
 /// Each value that a seat recalled was remembered, by some seat; and so was the value of what the cell holds. The call
 /// does nothing.

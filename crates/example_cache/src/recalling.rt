@@ -1,24 +1,22 @@
 //! A value is recalled, as long as its object lives.
 ghost use Rattle.std.specs.Prelude.{ℕ, ◌≡◌, ◌≤◌, ◌+◌, ◌<◌, ◌↔◌, Err, IfOk};
-ghost use Rattle.core_events.specs.Steps.{HasRoom};
-ghost use Rattle.core_events.specs.Words.{slot_in};
-ghost use Rattle.counted_handles.specs.declared.refusal.LoadError.TheVariants as refused;
-ghost use Rattle.control_word.specs.Moves.{KnowsStill};
-ghost use Rattle.control_word.specs.Resting.{IsAtRest, IsSpent};
+ghost use Rattle.cdrc.specs.core_events.Steps.{HasRoom};
+ghost use Rattle.cdrc.specs.core_events.Words.{slot_in};
+ghost use Rattle.cdrc.specs.counted_handles.declared.refusal.LoadError.TheVariants as refused;
+ghost use Rattle.cdrc.specs.control_word.Moves.{KnowsStill};
+ghost use Rattle.cdrc.specs.control_word.Resting.{IsAtRest, IsSpent};
 ghost use Rattle.example_cache.specs.Calls.{Finds, FoundEnded, HasEnded, Moves, Recalls, strong_named, weak_named};
 ghost use Rattle.example_cache.specs.declared.recalling.RecallError.TheVariants as no_recall;
-ghost use Rattle.control_word.specs.declared.upgrading.UpgradeError.TheVariants as no_raise;
-ghost use Rattle.domain_rule.specs.Views.{object_in};
-ghost use Rattle.plain_state.specs.Lists.{times};
+ghost use Rattle.cdrc.specs.control_word.declared.upgrading.UpgradeError.TheVariants as no_raise;
+ghost use Rattle.cdrc.specs.domain_rule.Views.{object_in};
+ghost use Rattle.cdrc.specs.plain_state.Lists.{times};
 
 use crate::deeds::RecallValue;
 use crate::law::CacheLaw;
-use acquire_retire::{Domain, Seat};
-use atomic_weak::try_load_weak;
-use control_word::{UpgradeError, drop_weak, upgrade};
-use counted_handles::{LoadError, Strong, Weak, WeakPlace};
-use plain_protocol::Still;
-use plain_state::PayloadKind;
+use cdrc::{
+    Domain, LoadError, PayloadKind, Seat, Still, Strong, UpgradeError, Weak, WeakPlace, drop_weak,
+    try_load_weak, upgrade,
+};
 
 /// Why no value was recalled.
 #[derive(Clone, Copy, PartialEq, Eq, Debug, Drop)]

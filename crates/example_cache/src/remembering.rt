@@ -1,18 +1,14 @@
 //! A value is remembered weakly.
 ghost use Rattle.std.specs.Prelude.{◌≡◌, ◌<◌, ◌↔◌, IfOk, IsErr, OnErr};
-ghost use Rattle.plain_state.specs.Lists.{times};
-ghost use Rattle.core_events.specs.Steps.{HasRoom};
-ghost use Rattle.control_word.specs.Resting.{IsAtRest, IsSpent};
-ghost use Rattle.domain_rule.specs.Views.{object_in};
+ghost use Rattle.cdrc.specs.plain_state.Lists.{times};
+ghost use Rattle.cdrc.specs.core_events.Steps.{HasRoom};
+ghost use Rattle.cdrc.specs.control_word.Resting.{IsAtRest, IsSpent};
+ghost use Rattle.cdrc.specs.domain_rule.Views.{object_in};
 ghost use Rattle.example_cache.specs.Calls.{remembered_too};
 
 use crate::deeds::RememberValue;
 use crate::law::CacheLaw;
-use acquire_retire::{Domain, Seat};
-use atomic_weak::{WeakPlace, store_weak};
-use control_word::weaken;
-use counted_handles::{Spent, Strong};
-use plain_state::PayloadKind;
+use cdrc::{Domain, PayloadKind, Seat, Spent, Strong, WeakPlace, store_weak, weaken};
 
 /// Remembers the value of an object that the seat owns, as long as somebody keeps the object alive; what the cache
 /// remembered before is retired. `Spent` exactly where the seat has no add left of its quota, and then nothing has

@@ -10,17 +10,15 @@
 #![tactic(auto)]
 
 ghost use Rattle.std.specs.Prelude.{◌≡◌, ◌<◌, IfOk, IfSome};
-ghost use Rattle.core_events.specs.Steps.{HasRoom};
-ghost use Rattle.control_word.specs.Resting.{IsAtRest};
+ghost use Rattle.cdrc.specs.core_events.Steps.{HasRoom};
+ghost use Rattle.cdrc.specs.control_word.Resting.{IsAtRest};
 ghost use Rattle.example_program.specs.Telling.{TellsRead};
 
-use acquire_retire::{Domain, OpenError, Quota, Seat, Shape, open_domain};
-use deleter::Deleter;
+use cdrc::{
+    Deleter, Domain, OpenError, Quota, RecordKind, Seat, Shape, collect, end, open_domain, read,
+    reap, record_of,
+};
 use example_setting::{SettingLaw, read_value, store_value};
-use plain_state::{RecordKind, record_of};
-use retiring_stores::collect;
-use slot_store::{read, reap};
-use snapshot_ptr::end;
 use std::alloc::Global;
 use std::io;
 

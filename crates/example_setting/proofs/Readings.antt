@@ -1,36 +1,36 @@
 -- What a snapshot with the deed ReadValue leaves of a seat.
 use Rattle.std.proofs.Common.{◌≡◌, inl, inr, ℕ, suc, zero, ◌<◌, ◌+◌, List, [], ◌∷◌, ◌++◌, length, refl, sym, ap, subst, ◌∙◌, arith, Option, Some, None}
 use Rattle.std.specs.Prelude.{Err, IfOk, Ok, Result, if◌then◌else◌}
-use Rattle.plain_state.specs.declared.act.EventPlace.{EventPlace}
-use Rattle.plain_state.specs.declared.act.EventPlace.TheVariants.{Cell}
-use Rattle.plain_state.specs.declared.act.PlainAct.{PlainAct}
-use Rattle.plain_state.specs.declared.act.PlainAct.TheVariants as plain
-use Rattle.plain_state.specs.declared.slot.SlotId.{SlotId}
-use Rattle.plain_state.specs.State.{Plain}
-use Rattle.plain_state.specs.Steps.{word_of}
-use Rattle.plain_protocol.specs.Owns.{HasSlot, OwnPart}
-use Rattle.core_events.specs.declared.act.Act.TheVariants as act
-use Rattle.core_events.specs.declared.outcome.Outcome.TheVariants as outcome
-use Rattle.core_events.specs.Shows.{show_seat}
-use Rattle.core_events.specs.Words.{slot_in}
-use Rattle.core_law.proofs.ShownPlaces.{word_slot}
-use Rattle.counted_handles.specs.declared.refusal.LoadError.{LoadError}
-use Rattle.counted_handles.specs.declared.refusal.LoadError.TheVariants as refused
-use Rattle.domain_rule.specs.Views.{object_in, own_of}
-use Rattle.acquire_retire.specs.Calls.{Steps}
-use Rattle.acquire_retire.specs.Domains.{DomainState}
-use Rattle.acquire_retire.specs.Notes.{least_free}
-use Rattle.acquire_retire.specs.Seats.{SeatState}
-use Rattle.control_word.specs.Resting.{IsAtRest}
-use Rattle.protected_loads.specs.Loads.{Misses, Protects}
-use Rattle.protected_loads.proofs.Checking.{valid_word}
-use Rattle.protected_loads.proofs.Learning.{client_found, client_null, has_found, known_found}
-use Rattle.protected_loads.proofs.Protecting.{holds_snapshot}
-use Rattle.protected_loads.proofs.Telling.{four_notes, holds_has}
-use Rattle.snapshot_ptr.specs.Handles.{Snap, slot_under}
-use Rattle.snapshot_ptr.specs.Taking.{IsReadyToTake, Takes, word_taken}
-use Rattle.snapshot_ptr.proofs.Taken.{IsFreeIfThere, least_is_there}
-use Rattle.snapshot_ptr.proofs.Under.{IsFreeWord}
+use Rattle.cdrc.specs.plain_state.declared.act.EventPlace.{EventPlace}
+use Rattle.cdrc.specs.plain_state.declared.act.EventPlace.TheVariants.{Cell}
+use Rattle.cdrc.specs.plain_state.declared.act.PlainAct.{PlainAct}
+use Rattle.cdrc.specs.plain_state.declared.act.PlainAct.TheVariants as plain
+use Rattle.cdrc.specs.plain_state.declared.slot.SlotId.{SlotId}
+use Rattle.cdrc.specs.plain_state.State.{Plain}
+use Rattle.cdrc.specs.plain_state.Steps.{word_of}
+use Rattle.cdrc.specs.plain_protocol.Owns.{HasSlot, OwnPart}
+use Rattle.cdrc.specs.core_events.declared.act.Act.TheVariants as act
+use Rattle.cdrc.specs.core_events.declared.outcome.Outcome.TheVariants as outcome
+use Rattle.cdrc.specs.core_events.Shows.{show_seat}
+use Rattle.cdrc.specs.core_events.Words.{slot_in}
+use Rattle.cdrc.proofs.Below.core_law.ShownPlaces.{word_slot}
+use Rattle.cdrc.specs.counted_handles.declared.refusal.LoadError.{LoadError}
+use Rattle.cdrc.specs.counted_handles.declared.refusal.LoadError.TheVariants as refused
+use Rattle.cdrc.specs.domain_rule.Views.{object_in, own_of}
+use Rattle.cdrc.specs.acquire_retire.Calls.{Steps}
+use Rattle.cdrc.specs.acquire_retire.Domains.{DomainState}
+use Rattle.cdrc.specs.acquire_retire.Notes.{least_free}
+use Rattle.cdrc.specs.acquire_retire.Seats.{SeatState}
+use Rattle.cdrc.specs.control_word.Resting.{IsAtRest}
+use Rattle.cdrc.specs.protected_loads.Loads.{Misses, Protects}
+use Rattle.cdrc.proofs.Below.protected_loads.Checking.{valid_word}
+use Rattle.cdrc.proofs.Below.protected_loads.Learning.{client_found, client_null, has_found, known_found}
+use Rattle.cdrc.proofs.Below.protected_loads.Protecting.{holds_snapshot}
+use Rattle.cdrc.proofs.Below.protected_loads.Telling.{four_notes, holds_has}
+use Rattle.cdrc.specs.snapshot_ptr.Handles.{Snap, slot_under}
+use Rattle.cdrc.specs.snapshot_ptr.Taking.{IsReadyToTake, Takes, word_taken}
+use Rattle.cdrc.proofs.Below.snapshot_ptr.Taken.{IsFreeIfThere, least_is_there}
+use Rattle.cdrc.proofs.Below.snapshot_ptr.Under.{IsFreeWord}
 use Rattle.example_setting.specs.Views.{View}
 use Rattle.example_setting.specs.Calls.{Reads, read_too}
 use Rattle.example_setting.specs.Deeds.{ReadReady, read_next, value_of}

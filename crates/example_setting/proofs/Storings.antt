@@ -1,18 +1,18 @@
 -- A seat that makes an object and gives its reference away has what it had.
 use Rattle.std.proofs.Common.{◌≡◌, List, [], ◌∷◌, ◌++◌, refl, sym, subst, ◌∙◌, arith, Some}
 use Rattle.std.proofs.lemmas.Bool.Decides.{nat_tests}
-use Rattle.plain_state.specs.declared.slot.SlotId.{SlotId}
-use Rattle.plain_state.specs.declared.slot.Kind.TheVariants.{Strong}
-use Rattle.plain_state.specs.Lists.{times}
-use Rattle.plain_protocol.specs.Owns.{HasSlot}
-use Rattle.core_events.specs.declared.view.CoreView.{CoreView}
-use Rattle.core_events.specs.declared.view.Move.{Move}
-use Rattle.core_events.specs.Shows.{show_seat}
-use Rattle.core_events.specs.Steps.{without_given}
-use Rattle.core_law.proofs.Kit.{one_same, times_push, times_without}
-use Rattle.control_word.specs.Moves.{KnowsStill}
-use Rattle.acquire_retire.specs.Seats.{SeatState}
-use Rattle.slot_store.specs.Calls.{with_made}
+use Rattle.cdrc.specs.plain_state.declared.slot.SlotId.{SlotId}
+use Rattle.cdrc.specs.plain_state.declared.slot.Kind.TheVariants.{Strong}
+use Rattle.cdrc.specs.plain_state.Lists.{times}
+use Rattle.cdrc.specs.plain_protocol.Owns.{HasSlot}
+use Rattle.cdrc.specs.core_events.declared.view.CoreView.{CoreView}
+use Rattle.cdrc.specs.core_events.declared.view.Move.{Move}
+use Rattle.cdrc.specs.core_events.Shows.{show_seat}
+use Rattle.cdrc.specs.core_events.Steps.{without_given}
+use Rattle.cdrc.proofs.Below.core_law.Kit.{one_same, times_push, times_without}
+use Rattle.cdrc.specs.control_word.Moves.{KnowsStill}
+use Rattle.cdrc.specs.acquire_retire.Seats.{SeatState}
+use Rattle.cdrc.specs.slot_store.Calls.{with_made}
 
 -- it owns each slot as often as before
 pub gives_made : (s x : SlotId) (v : CoreView)

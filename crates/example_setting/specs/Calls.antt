@@ -1,15 +1,15 @@
 -- What a read and a store leave of a seat.
 use Rattle.std.specs.Prelude.{ℕ, ◌≡◌, List, [], ◌∷◌, ◌++◌, Option, Some, None}
-use Rattle.plain_state.specs.declared.act.EventPlace.TheVariants.{Cell}
-use Rattle.plain_state.specs.declared.slot.SlotId.{SlotId}
-use Rattle.plain_state.specs.Lists.{times}
-use Rattle.domain_rule.specs.Views.{object_in}
-use Rattle.acquire_retire.specs.Domains.{DomainState}
-use Rattle.acquire_retire.specs.Notes.{least_free}
-use Rattle.acquire_retire.specs.Seats.{SeatState}
-use Rattle.protected_loads.specs.Loads.{Misses}
-use Rattle.snapshot_ptr.specs.Handles.{Snap}
-use Rattle.snapshot_ptr.specs.Taking.{word_taken}
+use Rattle.cdrc.specs.plain_state.declared.act.EventPlace.TheVariants.{Cell}
+use Rattle.cdrc.specs.plain_state.declared.slot.SlotId.{SlotId}
+use Rattle.cdrc.specs.plain_state.Lists.{times}
+use Rattle.cdrc.specs.domain_rule.Views.{object_in}
+use Rattle.cdrc.specs.acquire_retire.Domains.{DomainState}
+use Rattle.cdrc.specs.acquire_retire.Notes.{least_free}
+use Rattle.cdrc.specs.acquire_retire.Seats.{SeatState}
+use Rattle.cdrc.specs.protected_loads.Loads.{Misses}
+use Rattle.cdrc.specs.snapshot_ptr.Handles.{Snap}
+use Rattle.cdrc.specs.snapshot_ptr.Taking.{word_taken}
 use Rattle.example_setting.specs.Views.{View}
 use Rattle.example_setting.specs.Deeds.{ReadTells, read_next}
 

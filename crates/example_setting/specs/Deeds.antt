@@ -1,11 +1,11 @@
 -- The deeds on a setting: when each is ready, the next view, and what it tells.
 use Rattle.std.specs.Prelude.{ℕ, zero, suc, ◌≡◌, ◌⊎◌, List, [], ◌∷◌, ◌++◌, Option, Some, None}
-use Rattle.plain_state.specs.declared.act.EventPlace.TheVariants.{Cell}
-use Rattle.plain_state.specs.declared.act.PlainAct.{PlainAct}
-use Rattle.plain_state.specs.declared.act.PlainAct.TheVariants as act
-use Rattle.plain_state.specs.declared.slot.SlotId.{SlotId}
-use Rattle.plain_state.specs.State.{Plain, seat_at, slot_at}
-use Rattle.plain_protocol.specs.Owns.{Object, OwnPart, HasSlot}
+use Rattle.cdrc.specs.plain_state.declared.act.EventPlace.TheVariants.{Cell}
+use Rattle.cdrc.specs.plain_state.declared.act.PlainAct.{PlainAct}
+use Rattle.cdrc.specs.plain_state.declared.act.PlainAct.TheVariants as act
+use Rattle.cdrc.specs.plain_state.declared.slot.SlotId.{SlotId}
+use Rattle.cdrc.specs.plain_state.State.{Plain, seat_at, slot_at}
+use Rattle.cdrc.specs.plain_protocol.Owns.{Object, OwnPart, HasSlot}
 use Rattle.example_setting.specs.Views.{View}
 use Rattle.example_setting.specs.Setting.{Holds}
 

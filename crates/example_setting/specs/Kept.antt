@@ -5,13 +5,13 @@ use Rattle.std.specs.List.{range_with_len}
 use Rattle.std.proofs.lemmas.Bool.{cases_eq, cases_lt}
 use Rattle.std.proofs.lemmas.List.{get_or-set_same, get_or-set_other, get_or_past, get_or-replicate, length-replicate}
 use Rattle.std.proofs.lemmas.List.FromFn.{get_or-map-range_with_len, length-map-range_with_len}
-use Rattle.plain_state.specs.declared.slot.SlotId.{SlotId}
-use Rattle.plain_state.specs.State.{Plain, slot_at}
-use Rattle.plain_state.specs.Lawful.{Lawful}
-use Rattle.plain_protocol.specs.Laws.{Starts, KeptByCalm, KeptByForeign}
-use Rattle.protocol_pairs.proofs.Held.{cell_live}
-use Rattle.protocol_pairs.proofs.Leaves.{calm_is_foreign, foreign_leaves}
-use Rattle.protocol_pairs.specs.Untouched.{IsUntouched}
+use Rattle.cdrc.specs.plain_state.declared.slot.SlotId.{SlotId}
+use Rattle.cdrc.specs.plain_state.State.{Plain, slot_at}
+use Rattle.cdrc.specs.plain_state.Lawful.{Lawful}
+use Rattle.cdrc.specs.plain_protocol.Laws.{Starts, KeptByCalm, KeptByForeign}
+use Rattle.cdrc.proofs.Below.protocol_pairs.Held.{cell_live}
+use Rattle.cdrc.proofs.Below.protocol_pairs.Leaves.{calm_is_foreign, foreign_leaves}
+use Rattle.cdrc.specs.protocol_pairs.Untouched.{IsUntouched}
 use Rattle.example_setting.specs.Views.{View, no_view, view_at}
 use Rattle.example_setting.specs.Setting.{WasStored, Holds, Setting, owns}
 

@@ -4,8 +4,8 @@ use Rattle.std.specs.Prelude.{Contains, slice_set}
 use Rattle.std.proofs.lemmas.Bool.{cases_eq}
 use Rattle.std.proofs.lemmas.List.{length-set}
 use Rattle.std.proofs.lemmas.List.Elements.{Contains-append_left, Contains-append_right, Contains-append_cases}
-use Rattle.plain_state.specs.State.{Plain, slot_at}
-use Rattle.plain_protocol.specs.Laws.{KeptByLeave}
+use Rattle.cdrc.specs.plain_state.State.{Plain, slot_at}
+use Rattle.cdrc.specs.plain_protocol.Laws.{KeptByLeave}
 use Rattle.example_setting.specs.Views.{View, no_view, joined, view_at}
 use Rattle.example_setting.specs.Setting.{WasStored, Holds, Setting}
 use Rattle.example_setting.specs.Kept.{none_in, view_else, view_here}

@@ -4,19 +4,19 @@ use Rattle.std.specs.Prelude.{Contains, slice_set, if◌then◌else◌}
 use Rattle.std.proofs.lemmas.Bool.{cases_eq}
 use Rattle.std.proofs.lemmas.List.{get_or-set_same, set-get_or}
 use Rattle.std.proofs.lemmas.List.Elements.{Contains-append_left, Contains-append_cases, Contains-push, Contains-push_cases}
-use Rattle.plain_state.specs.declared.act.EventPlace.TheVariants.{Cell}
-use Rattle.plain_state.specs.declared.act.PlainAct.{PlainAct}
-use Rattle.plain_state.specs.declared.act.PlainAct.TheVariants as act
-use Rattle.plain_state.specs.declared.slot.SlotId.{SlotId}
-use Rattle.plain_state.specs.State.{Plain, new_slot, seat_at, slot_at}
-use Rattle.plain_state.specs.Steps.{Does, word_of}
-use Rattle.plain_state.proofs.Kit.{times_lost}
-use Rattle.plain_protocol.specs.Acts.{IsCalm}
-use Rattle.plain_protocol.specs.Laws.{Meets, Keeps}
-use Rattle.plain_protocol.specs.Owns.{HasSlot, has_slot, object_of, own_part}
-use Rattle.protocol_pairs.proofs.Held.{has_object, held_has}
-use Rattle.protocol_pairs.proofs.Leaves.{calm_is_foreign, foreign_leaves}
-use Rattle.protocol_pairs.specs.Untouched.{IsUntouched}
+use Rattle.cdrc.specs.plain_state.declared.act.EventPlace.TheVariants.{Cell}
+use Rattle.cdrc.specs.plain_state.declared.act.PlainAct.{PlainAct}
+use Rattle.cdrc.specs.plain_state.declared.act.PlainAct.TheVariants as act
+use Rattle.cdrc.specs.plain_state.declared.slot.SlotId.{SlotId}
+use Rattle.cdrc.specs.plain_state.State.{Plain, new_slot, seat_at, slot_at}
+use Rattle.cdrc.specs.plain_state.Steps.{Does, word_of}
+use Rattle.cdrc.proofs.Below.plain_state.Kit.{times_lost}
+use Rattle.cdrc.specs.plain_protocol.Acts.{IsCalm}
+use Rattle.cdrc.specs.plain_protocol.Laws.{Meets, Keeps}
+use Rattle.cdrc.specs.plain_protocol.Owns.{HasSlot, has_slot, object_of, own_part}
+use Rattle.cdrc.proofs.Below.protocol_pairs.Held.{has_object, held_has}
+use Rattle.cdrc.proofs.Below.protocol_pairs.Leaves.{calm_is_foreign, foreign_leaves}
+use Rattle.cdrc.specs.protocol_pairs.Untouched.{IsUntouched}
 use Rattle.example_setting.specs.Views.{View, no_view, view_at}
 use Rattle.example_setting.specs.Setting.{WasStored, Holds, Setting, owns}
 use Rattle.example_setting.specs.Deeds.{value_of, StoreReady, value_put, store_next, StoreTells, ReadReady, read_next, ReadTells}

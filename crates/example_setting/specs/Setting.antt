@@ -1,8 +1,8 @@
 -- The law of a setting: a value is the payload of an object, and the cell holds the value that was stored last.
 use Rattle.std.specs.Prelude.{ℕ, ◌≡◌, List, Contains, slice_index_or, Some, None}
-use Rattle.plain_state.specs.declared.slot.SlotId.{SlotId}
-use Rattle.plain_state.specs.State.{Plain, slot_at}
-use Rattle.plain_protocol.specs.Acts.{Owned}
+use Rattle.cdrc.specs.plain_state.declared.slot.SlotId.{SlotId}
+use Rattle.cdrc.specs.plain_state.State.{Plain, slot_at}
+use Rattle.cdrc.specs.plain_protocol.Acts.{Owned}
 use Rattle.example_setting.specs.Views.{View, view_at}
 
 -- some seat stored this value

@@ -3,8 +3,7 @@ ghost use Rattle.example_setting.specs.Deeds.{ReadReady, ReadTells, StoreReady, 
 ghost use Rattle.example_setting.specs.Makes.{read_keeps, store_keeps};
 
 use crate::law::SettingLaw;
-use plain_protocol::Deed;
-use plain_state::PayloadKind;
+use cdrc::{Deed, PayloadKind};
 
 /// The cell gets an object of the seat's own, whose value joins those that the seat stored; or null.
 #[derive(Clone, Copy, Debug, Drop)]

@@ -6,8 +6,7 @@ ghost use Rattle.example_setting.specs.Kept.{setting_calm, setting_foreign, sett
 ghost use Rattle.example_setting.specs.Leave.{setting_leave};
 
 use crate::view::View;
-use plain_protocol::Protocol;
-use plain_state::PayloadKind;
+use cdrc::{PayloadKind, Protocol};
 use std::marker::PhantomData;
 
 /// The law of a setting in one strong cell, whose values are payloads of the kind `K`.

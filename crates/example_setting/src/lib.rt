@@ -20,10 +20,6 @@ mod law;
 mod promises;
 mod reading;
 mod storing;
-#[cfg(test)]
-mod tests;
-#[cfg(test)]
-mod tests_running;
 mod view;
 
 pub use deeds::{ReadValue, StoreValue};

@@ -1,7 +1,7 @@
 //! What the law gives a user of a setting.
 ghost use Rattle.std.specs.Prelude.{ℕ, List, Contains};
-ghost use Rattle.plain_state.specs.State.{Plain, slot_at};
-ghost use Rattle.plain_state.specs.declared.slot.SlotId.{SlotId};
+ghost use Rattle.cdrc.specs.plain_state.State.{Plain, slot_at};
+ghost use Rattle.cdrc.specs.plain_state.declared.slot.SlotId.{SlotId};
 ghost use Rattle.example_setting.specs.Views.{View, view_at};
 ghost use Rattle.example_setting.specs.Setting.{Holds, Setting, WasStored};
 

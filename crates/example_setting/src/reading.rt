@@ -1,20 +1,18 @@
 //! A value is read: the seat comes under a snapshot of the object that the cell holds.
 ghost use Rattle.std.specs.Prelude.{ℕ, ◌≡◌, ◌<◌, ◌↔◌, Err, IfOk, IfSome};
-ghost use Rattle.core_events.specs.Steps.{HasRoom};
-ghost use Rattle.core_events.specs.Views.{Holds};
-ghost use Rattle.core_events.specs.Words.{slot_in};
-ghost use Rattle.counted_handles.specs.declared.refusal.LoadError.TheVariants as refused;
-ghost use Rattle.control_word.specs.Moves.{KnowsStill};
-ghost use Rattle.control_word.specs.Resting.{IsAtRest};
-ghost use Rattle.snapshot_ptr.specs.Handles.{IsUnder};
-ghost use Rattle.snapshot_ptr.specs.Taking.{CanTakeNone};
+ghost use Rattle.cdrc.specs.core_events.Steps.{HasRoom};
+ghost use Rattle.cdrc.specs.core_events.Views.{Holds};
+ghost use Rattle.cdrc.specs.core_events.Words.{slot_in};
+ghost use Rattle.cdrc.specs.counted_handles.declared.refusal.LoadError.TheVariants as refused;
+ghost use Rattle.cdrc.specs.control_word.Moves.{KnowsStill};
+ghost use Rattle.cdrc.specs.control_word.Resting.{IsAtRest};
+ghost use Rattle.cdrc.specs.snapshot_ptr.Handles.{IsUnder};
+ghost use Rattle.cdrc.specs.snapshot_ptr.Taking.{CanTakeNone};
 ghost use Rattle.example_setting.specs.Calls.{Moves, Reads};
 
 use crate::deeds::ReadValue;
 use crate::law::SettingLaw;
-use acquire_retire::{Domain, Seat};
-use plain_state::PayloadKind;
-use snapshot_ptr::{LoadError, Place, Snapshot, try_snapshot};
+use cdrc::{Domain, LoadError, PayloadKind, Place, Seat, Snapshot, try_snapshot};
 
 /// A snapshot of the object that the cell holds. The seat has read its value then: `slot_store::read` tells each word,
 /// as long as the snapshot lasts, and `snapshot_ptr::end` ends it. `None` where the cell was found null, `Moved` where

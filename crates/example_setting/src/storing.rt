@@ -1,17 +1,13 @@
 //! A value is stored: an object is made of it, and put into the cell.
 ghost use Rattle.std.specs.Prelude.{◌≡◌, ◌∷◌, ◌++◌, [], ◌<◌, IfOk, OnErr};
-ghost use Rattle.core_events.specs.Steps.{HasRoom};
-ghost use Rattle.control_word.specs.Moves.{KnowsStill};
-ghost use Rattle.control_word.specs.Resting.{IsAtRest};
+ghost use Rattle.cdrc.specs.core_events.Steps.{HasRoom};
+ghost use Rattle.cdrc.specs.control_word.Moves.{KnowsStill};
+ghost use Rattle.cdrc.specs.control_word.Resting.{IsAtRest};
 ghost use Rattle.example_setting.specs.Calls.{OwnsAsMuch};
 
 use crate::deeds::StoreValue;
 use crate::law::SettingLaw;
-use acquire_retire::{Domain, Seat};
-use atomic_shared::{Place, store};
-use plain_state::PayloadKind;
-use protocol_pairs::Spares;
-use slot_store::{MakeError, make};
+use cdrc::{Domain, MakeError, PayloadKind, Place, Seat, Spares, make, store};
 
 /// Stores a value: makes an object of it, and puts it into the cell. What was there is retired. Where no object can be
 /// made, nothing is stored.

@@ -1,9 +1,9 @@
 -- What lies in a stack, however deep, lives and was pushed.
 use Rattle.std.proofs.Common.{◌≡◌, ℕ, zero, suc, List, refl, Option, Some, None}
-use Rattle.plain_state.specs.declared.slot.SlotId.{SlotId}
-use Rattle.plain_state.specs.Lawful.{Lawful}
-use Rattle.plain_state.specs.State.{Plain, slot_at}
-use Rattle.protocol_pairs.proofs.Held.{cell_live, first_live}
+use Rattle.cdrc.specs.plain_state.declared.slot.SlotId.{SlotId}
+use Rattle.cdrc.specs.plain_state.Lawful.{Lawful}
+use Rattle.cdrc.specs.plain_state.State.{Plain, slot_at}
+use Rattle.cdrc.proofs.Below.protocol_pairs.Held.{cell_live, first_live}
 use Rattle.example_stack.specs.Views.{View, WasPushed}
 use Rattle.example_stack.specs.Stack.{IsNode, Stack, below_of, node_at}
 

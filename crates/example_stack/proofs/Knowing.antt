@@ -1,18 +1,18 @@
 -- What a seat knows of its own slots by its view.
 use Rattle.std.proofs.Common.{◌≡◌, ℕ, ◌<◌, List, refl, sym, ap, subst, arith, Option, Some, None}
 use Rattle.std.specs.Prelude.{Contains, if◌then◌else◌}
-use Rattle.plain_state.specs.declared.slot.SlotId.{SlotId}
-use Rattle.plain_state.specs.declared.slot.Kind.TheVariants.{Strong}
-use Rattle.plain_state.specs.Lists.{times}
-use Rattle.plain_protocol.specs.Owns.{HasSlot}
-use Rattle.core_events.specs.declared.view.CoreView.{CoreView}
-use Rattle.core_events.specs.Shows.{show_seat}
-use Rattle.core_events.specs.Steps.{CanGive, without_given}
-use Rattle.core_law.proofs.Kit.{one_same, times_push, times_without}
-use Rattle.domain_rule.specs.Views.{object_in, own_of}
-use Rattle.acquire_retire.specs.Seats.{SeatState}
-use Rattle.protected_loads.proofs.Telling.{holds_has}
-use Rattle.protocol_pairs.specs.Spared.{HasOneOf}
+use Rattle.cdrc.specs.plain_state.declared.slot.SlotId.{SlotId}
+use Rattle.cdrc.specs.plain_state.declared.slot.Kind.TheVariants.{Strong}
+use Rattle.cdrc.specs.plain_state.Lists.{times}
+use Rattle.cdrc.specs.plain_protocol.Owns.{HasSlot}
+use Rattle.cdrc.specs.core_events.declared.view.CoreView.{CoreView}
+use Rattle.cdrc.specs.core_events.Shows.{show_seat}
+use Rattle.cdrc.specs.core_events.Steps.{CanGive, without_given}
+use Rattle.cdrc.proofs.Below.core_law.Kit.{one_same, times_push, times_without}
+use Rattle.cdrc.specs.domain_rule.Views.{object_in, own_of}
+use Rattle.cdrc.specs.acquire_retire.Seats.{SeatState}
+use Rattle.cdrc.proofs.Below.protected_loads.Telling.{holds_has}
+use Rattle.cdrc.specs.protocol_pairs.Spared.{HasOneOf}
 use Rattle.example_stack.specs.Views.{View}
 use Rattle.example_stack.specs.Deeds.{OwnsNode, SawIt, SawObject}
 use Rattle.example_stack.specs.Calls.{HasNode, with_found}

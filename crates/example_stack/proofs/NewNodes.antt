@@ -1,18 +1,18 @@
 -- What a make with the deed MakeNode asks, and what it leaves.
 use Rattle.std.proofs.Common.{◌≡◌, ℕ, ◌<◌, List, sym, ap, subst, ◌∙◌}
-use Rattle.plain_state.specs.declared.act.PlainAct.TheVariants as plain
-use Rattle.plain_state.specs.declared.slot.SlotId.{SlotId}
-use Rattle.plain_state.specs.Lists.{times}
-use Rattle.plain_protocol.specs.Owns.{Object}
-use Rattle.core_events.specs.declared.view.CoreView.{CoreView}
-use Rattle.core_events.specs.declared.view.Phase.{Phase}
-use Rattle.core_events.specs.declared.view.Phase.TheVariants as phase
-use Rattle.core_events.specs.ShownSteps.{on_slot}
-use Rattle.core_events.specs.Views.{slot_of}
-use Rattle.domain_rule.specs.Views.{object_in}
-use Rattle.acquire_retire.specs.Domains.{DomainState}
-use Rattle.acquire_retire.specs.Seats.{SeatState}
-use Rattle.slot_store.specs.Calls.{IsReadyToMake, Makes}
+use Rattle.cdrc.specs.plain_state.declared.act.PlainAct.TheVariants as plain
+use Rattle.cdrc.specs.plain_state.declared.slot.SlotId.{SlotId}
+use Rattle.cdrc.specs.plain_state.Lists.{times}
+use Rattle.cdrc.specs.plain_protocol.Owns.{Object}
+use Rattle.cdrc.specs.core_events.declared.view.CoreView.{CoreView}
+use Rattle.cdrc.specs.core_events.declared.view.Phase.{Phase}
+use Rattle.cdrc.specs.core_events.declared.view.Phase.TheVariants as phase
+use Rattle.cdrc.specs.core_events.ShownSteps.{on_slot}
+use Rattle.cdrc.specs.core_events.Views.{slot_of}
+use Rattle.cdrc.specs.domain_rule.Views.{object_in}
+use Rattle.cdrc.specs.acquire_retire.Domains.{DomainState}
+use Rattle.cdrc.specs.acquire_retire.Seats.{SeatState}
+use Rattle.cdrc.specs.slot_store.Calls.{IsReadyToMake, Makes}
 use Rattle.example_stack.specs.Views.{View}
 use Rattle.example_stack.specs.Deeds.{MakeReady, TellsNothing, same_next}
 use Rattle.example_stack.specs.Calls.{HasNode}

@@ -2,31 +2,31 @@
 use Rattle.std.proofs.Common.{◌≡◌, inl, inr, ℕ, suc, zero, ◌<◌, List, [], ◌∷◌, ◌++◌, refl, sym, ap, subst, ◌∙◌, arith, Option, Some, None}
 use Rattle.std.specs.Prelude.{Contains, Err, IfErr, IfOk, OnErr, Ok, Result, if◌then◌else◌}
 use Rattle.std.proofs.lemmas.List.Elements.{Contains-push}
-use Rattle.plain_state.specs.declared.act.EventPlace.TheVariants.{Cell, Field}
-use Rattle.plain_state.specs.declared.act.PlainAct.{PlainAct}
-use Rattle.plain_state.specs.declared.act.PlainAct.TheVariants as plain
-use Rattle.plain_state.specs.declared.slot.SlotId.{SlotId}
-use Rattle.plain_state.specs.declared.slot.Kind.TheVariants.{Strong}
-use Rattle.plain_state.specs.Lists.{times}
-use Rattle.plain_state.specs.Places.{place_kind}
-use Rattle.plain_protocol.specs.Owns.{Object, OwnPart}
-use Rattle.core_events.specs.declared.view.CoreView.{CoreView}
-use Rattle.core_events.specs.Words.{slot_in}
-use Rattle.core_law.proofs.Kit.{one_same, times_push}
-use Rattle.counted_handles.specs.Handles.{Handle}
-use Rattle.counted_handles.specs.declared.place.Place.{Place}
-use Rattle.counted_handles.specs.declared.refusal.LoadError.{LoadError}
-use Rattle.counted_handles.specs.declared.refusal.LoadError.TheVariants as refused
-use Rattle.counted_handles.specs.declared.place.Place.TheVariants as place
-use Rattle.domain_rule.specs.Views.{object_in, own_of}
-use Rattle.acquire_retire.specs.Domains.{DomainState}
-use Rattle.acquire_retire.specs.Seats.{SeatState}
-use Rattle.atomic_shared.specs.Places.{named, strong_place}
-use Rattle.control_word.specs.Resting.{IsAtRest, IsSpent}
-use Rattle.protected_loads.specs.Loads.{Announces, FindsNull, Misses}
-use Rattle.protected_loads.specs.References.{IsReadyToLoad, Loads, Refers, with_reference}
-use Rattle.protected_loads.proofs.Learning.{allowed, batch, batch_loaded, batch_moved, checked, client_found, client_moved, client_null, has_found, known_found, slot_there}
-use Rattle.protocol_pairs.specs.Values.{value_of}
+use Rattle.cdrc.specs.plain_state.declared.act.EventPlace.TheVariants.{Cell, Field}
+use Rattle.cdrc.specs.plain_state.declared.act.PlainAct.{PlainAct}
+use Rattle.cdrc.specs.plain_state.declared.act.PlainAct.TheVariants as plain
+use Rattle.cdrc.specs.plain_state.declared.slot.SlotId.{SlotId}
+use Rattle.cdrc.specs.plain_state.declared.slot.Kind.TheVariants.{Strong}
+use Rattle.cdrc.specs.plain_state.Lists.{times}
+use Rattle.cdrc.specs.plain_state.Places.{place_kind}
+use Rattle.cdrc.specs.plain_protocol.Owns.{Object, OwnPart}
+use Rattle.cdrc.specs.core_events.declared.view.CoreView.{CoreView}
+use Rattle.cdrc.specs.core_events.Words.{slot_in}
+use Rattle.cdrc.proofs.Below.core_law.Kit.{one_same, times_push}
+use Rattle.cdrc.specs.counted_handles.Handles.{Handle}
+use Rattle.cdrc.specs.counted_handles.declared.place.Place.{Place}
+use Rattle.cdrc.specs.counted_handles.declared.refusal.LoadError.{LoadError}
+use Rattle.cdrc.specs.counted_handles.declared.refusal.LoadError.TheVariants as refused
+use Rattle.cdrc.specs.counted_handles.declared.place.Place.TheVariants as place
+use Rattle.cdrc.specs.domain_rule.Views.{object_in, own_of}
+use Rattle.cdrc.specs.acquire_retire.Domains.{DomainState}
+use Rattle.cdrc.specs.acquire_retire.Seats.{SeatState}
+use Rattle.cdrc.specs.atomic_shared.Places.{named, strong_place}
+use Rattle.cdrc.specs.control_word.Resting.{IsAtRest, IsSpent}
+use Rattle.cdrc.specs.protected_loads.Loads.{Announces, FindsNull, Misses}
+use Rattle.cdrc.specs.protected_loads.References.{IsReadyToLoad, Loads, Refers, with_reference}
+use Rattle.cdrc.proofs.Below.protected_loads.Learning.{allowed, batch, batch_loaded, batch_moved, checked, client_found, client_moved, client_null, has_found, known_found, slot_there}
+use Rattle.cdrc.specs.protocol_pairs.Values.{value_of}
 use Rattle.example_stack.specs.Views.{View}
 use Rattle.example_stack.specs.Deeds.{IsStackPlace, SeeReady, SeeTells, see_next}
 use Rattle.example_stack.specs.Calls.{IsPlaceOf, IsWhy, Sees}

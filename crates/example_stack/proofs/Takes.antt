@@ -1,27 +1,27 @@
 -- What a seat has on its way through a push and a pop.
 use Rattle.std.proofs.Common.{◌≡◌, inr, ℕ, ◌<◌, List, [], ◌∷◌, ◌++◌, refl, sym, ap, subst, ◌∙◌, arith, Option, Some}
 use Rattle.std.specs.Prelude.{Err, IfErr, Ok, Result}
-use Rattle.plain_state.specs.declared.act.EventPlace.{EventPlace}
-use Rattle.plain_state.specs.declared.act.PlainAct.{PlainAct}
-use Rattle.plain_state.specs.declared.slot.SlotId.{SlotId}
-use Rattle.plain_state.specs.declared.slot.Kind.TheVariants.{Strong}
-use Rattle.plain_state.specs.Lists.{times}
-use Rattle.plain_state.specs.Steps.{word_of}
-use Rattle.plain_protocol.specs.Owns.{OwnPart}
-use Rattle.core_events.specs.Steps.{CanGive, without_given}
-use Rattle.core_events.specs.Words.{slot_in}
-use Rattle.core_law.proofs.Kit.{one_same, times_push}
-use Rattle.core_law.proofs.ShownPlaces.{slot_word}
-use Rattle.counted_handles.specs.Handles.{Handle}
-use Rattle.counted_handles.specs.declared.refusal.LoadError.{LoadError}
-use Rattle.counted_handles.specs.declared.refusal.LoadError.TheVariants as refused
-use Rattle.retiring_stores.specs.Exchanging.{Loses}
+use Rattle.cdrc.specs.plain_state.declared.act.EventPlace.{EventPlace}
+use Rattle.cdrc.specs.plain_state.declared.act.PlainAct.{PlainAct}
+use Rattle.cdrc.specs.plain_state.declared.slot.SlotId.{SlotId}
+use Rattle.cdrc.specs.plain_state.declared.slot.Kind.TheVariants.{Strong}
+use Rattle.cdrc.specs.plain_state.Lists.{times}
+use Rattle.cdrc.specs.plain_state.Steps.{word_of}
+use Rattle.cdrc.specs.plain_protocol.Owns.{OwnPart}
+use Rattle.cdrc.specs.core_events.Steps.{CanGive, without_given}
+use Rattle.cdrc.specs.core_events.Words.{slot_in}
+use Rattle.cdrc.proofs.Below.core_law.Kit.{one_same, times_push}
+use Rattle.cdrc.proofs.Below.core_law.ShownPlaces.{slot_word}
+use Rattle.cdrc.specs.counted_handles.Handles.{Handle}
+use Rattle.cdrc.specs.counted_handles.declared.refusal.LoadError.{LoadError}
+use Rattle.cdrc.specs.counted_handles.declared.refusal.LoadError.TheVariants as refused
+use Rattle.cdrc.specs.retiring_stores.Exchanging.{Loses}
 use Rattle.example_stack.specs.Deeds.{TellsNothing}
-use Rattle.atomic_shared.specs.Places.{named}
-use Rattle.domain_rule.specs.Views.{object_in}
-use Rattle.acquire_retire.specs.Domains.{DomainState}
-use Rattle.acquire_retire.specs.Seats.{SeatState}
-use Rattle.control_word.specs.Moves.{KnowsStill}
+use Rattle.cdrc.specs.atomic_shared.Places.{named}
+use Rattle.cdrc.specs.domain_rule.Views.{object_in}
+use Rattle.cdrc.specs.acquire_retire.Domains.{DomainState}
+use Rattle.cdrc.specs.acquire_retire.Seats.{SeatState}
+use Rattle.cdrc.specs.control_word.Moves.{KnowsStill}
 use Rattle.example_stack.specs.Views.{View}
 use Rattle.example_stack.specs.Calls.{Changes, HasNode, IsWhy, Sees, popped_too, pushed_too}
 use Rattle.example_stack.proofs.Knowing.{gives_found, has_owned, node_still, owns_again, owns_found}

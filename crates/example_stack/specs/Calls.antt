@@ -1,23 +1,23 @@
 -- What the calls on a stack ask of a seat, and what they leave.
 use Rattle.std.specs.Prelude.{ℕ, ◌≡◌, ◌<◌, ◌≤◌, ◌+◌, ◌⊎◌, List, [], ◌∷◌, ◌++◌, Option, Some, None}
-use Rattle.plain_state.specs.declared.act.EventPlace.{EventPlace}
-use Rattle.plain_state.specs.declared.act.PlainAct.{PlainAct}
-use Rattle.plain_state.specs.declared.slot.SlotId.{SlotId}
-use Rattle.plain_state.specs.Lists.{times}
-use Rattle.plain_protocol.specs.Owns.{OwnPart}
-use Rattle.core_events.specs.declared.view.CoreView.{CoreView}
-use Rattle.core_events.specs.Steps.{IsContent}
-use Rattle.core_events.specs.Words.{slot_in}
-use Rattle.control_word.specs.Resting.{IsSpent}
-use Rattle.counted_handles.specs.declared.refusal.LoadError.{LoadError}
-use Rattle.counted_handles.specs.declared.refusal.LoadError.TheVariants as refused
-use Rattle.protected_loads.specs.Loads.{Misses}
-use Rattle.retiring_stores.specs.Exchanging.{Loses}
-use Rattle.counted_handles.specs.declared.place.Place.{Place}
-use Rattle.counted_handles.specs.declared.place.Place.TheVariants as place
-use Rattle.domain_rule.specs.Views.{object_in, own_of}
-use Rattle.acquire_retire.specs.Domains.{DomainState}
-use Rattle.acquire_retire.specs.Seats.{SeatState}
+use Rattle.cdrc.specs.plain_state.declared.act.EventPlace.{EventPlace}
+use Rattle.cdrc.specs.plain_state.declared.act.PlainAct.{PlainAct}
+use Rattle.cdrc.specs.plain_state.declared.slot.SlotId.{SlotId}
+use Rattle.cdrc.specs.plain_state.Lists.{times}
+use Rattle.cdrc.specs.plain_protocol.Owns.{OwnPart}
+use Rattle.cdrc.specs.core_events.declared.view.CoreView.{CoreView}
+use Rattle.cdrc.specs.core_events.Steps.{IsContent}
+use Rattle.cdrc.specs.core_events.Words.{slot_in}
+use Rattle.cdrc.specs.control_word.Resting.{IsSpent}
+use Rattle.cdrc.specs.counted_handles.declared.refusal.LoadError.{LoadError}
+use Rattle.cdrc.specs.counted_handles.declared.refusal.LoadError.TheVariants as refused
+use Rattle.cdrc.specs.protected_loads.Loads.{Misses}
+use Rattle.cdrc.specs.retiring_stores.Exchanging.{Loses}
+use Rattle.cdrc.specs.counted_handles.declared.place.Place.{Place}
+use Rattle.cdrc.specs.counted_handles.declared.place.Place.TheVariants as place
+use Rattle.cdrc.specs.domain_rule.Views.{object_in, own_of}
+use Rattle.cdrc.specs.acquire_retire.Domains.{DomainState}
+use Rattle.cdrc.specs.acquire_retire.Seats.{SeatState}
 use Rattle.example_stack.specs.Views.{View}
 use Rattle.example_stack.specs.Deeds.{SawIt, SeeTells, TellsNothing, see_next}
 

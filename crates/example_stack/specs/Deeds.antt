@@ -1,17 +1,17 @@
 -- The deeds on a stack: when each is ready, and the next view.
 use Rattle.std.specs.Prelude.{ℕ, zero, suc, ◌≡◌, ◌<◌, ◌⊎◌, ◌==◌, List, [], ◌++◌, Contains, Option, Some, None, if◌then◌else◌}
-use Rattle.plain_state.specs.declared.act.EventPlace.{EventPlace}
-use Rattle.plain_state.specs.declared.act.EventPlace.TheVariants.{Cell, Field}
-use Rattle.plain_state.specs.declared.act.PlainAct.{PlainAct}
-use Rattle.plain_state.specs.declared.act.PlainAct.TheVariants as act
-use Rattle.plain_state.specs.declared.slot.SlotId.{SlotId}
-use Rattle.plain_state.specs.Lists.{times}
-use Rattle.plain_state.specs.State.{Plain}
-use Rattle.plain_state.specs.Steps.{word_of}
-use Rattle.plain_protocol.specs.Acts.{IsCalm}
-use Rattle.plain_protocol.specs.Owns.{Object, OwnPart}
-use Rattle.protocol_pairs.specs.Spared.{HasOneOf}
-use Rattle.protocol_pairs.specs.Values.{value_of}
+use Rattle.cdrc.specs.plain_state.declared.act.EventPlace.{EventPlace}
+use Rattle.cdrc.specs.plain_state.declared.act.EventPlace.TheVariants.{Cell, Field}
+use Rattle.cdrc.specs.plain_state.declared.act.PlainAct.{PlainAct}
+use Rattle.cdrc.specs.plain_state.declared.act.PlainAct.TheVariants as act
+use Rattle.cdrc.specs.plain_state.declared.slot.SlotId.{SlotId}
+use Rattle.cdrc.specs.plain_state.Lists.{times}
+use Rattle.cdrc.specs.plain_state.State.{Plain}
+use Rattle.cdrc.specs.plain_state.Steps.{word_of}
+use Rattle.cdrc.specs.plain_protocol.Acts.{IsCalm}
+use Rattle.cdrc.specs.plain_protocol.Owns.{Object, OwnPart}
+use Rattle.cdrc.specs.protocol_pairs.Spared.{HasOneOf}
+use Rattle.cdrc.specs.protocol_pairs.Values.{value_of}
 use Rattle.example_stack.specs.Views.{View}
 
 -- the seat owns a reference to a node

@@ -1,18 +1,18 @@
 -- Each deed keeps the law, at every step for which it is ready.
 use Rattle.std.proofs.Common.{⊎_elim, ℕ, List, sym, subst}
 use Rattle.std.specs.Prelude.{slice_set}
-use Rattle.plain_state.specs.declared.act.PlainAct.{PlainAct}
-use Rattle.plain_state.specs.Places.{content}
-use Rattle.plain_state.specs.State.{Plain}
-use Rattle.plain_state.specs.Steps.{Does}
-use Rattle.plain_protocol.specs.Acts.{IsCalm}
-use Rattle.plain_protocol.specs.Laws.{Keeps}
-use Rattle.plain_protocol.specs.Owns.{OwnPart, own_part}
+use Rattle.cdrc.specs.plain_state.declared.act.PlainAct.{PlainAct}
+use Rattle.cdrc.specs.plain_state.Places.{content}
+use Rattle.cdrc.specs.plain_state.State.{Plain}
+use Rattle.cdrc.specs.plain_state.Steps.{Does}
+use Rattle.cdrc.specs.plain_protocol.Acts.{IsCalm}
+use Rattle.cdrc.specs.plain_protocol.Laws.{Keeps}
+use Rattle.cdrc.specs.plain_protocol.Owns.{OwnPart, own_part}
 use Rattle.example_stack.specs.Views.{View, no_view, view_at}
 use Rattle.example_stack.specs.Stack.{Stack}
 use Rattle.example_stack.specs.Deeds.{LinkReady, MakeReady, PopReady, PushReady, SeeReady, SeeTells, TellsNothing, pop_next, push_next, same_next, see_next}
 use Rattle.std.proofs.lemmas.List.{set-get_or}
-use Rattle.protocol_pairs.proofs.Notes.{noted_here}
+use Rattle.cdrc.proofs.Below.protocol_pairs.Notes.{noted_here}
 use Rattle.example_stack.specs.Kept.{stack_calm}
 use Rattle.example_stack.specs.Makes.{found_in, links, makes, pops, pushes, sees}
 

@@ -2,16 +2,16 @@
 use Rattle.std.proofs.Common.{◌≡◌, ⊎_elim, ℕ, List, get_or, replicate, refl, sym, ap, subst, ◌∙◌, arith, Option, Some, None}
 use Rattle.std.proofs.lemmas.Bool.{cases_lt}
 use Rattle.std.proofs.lemmas.List.{get_or_past, get_or-replicate, length-replicate}
-use Rattle.plain_state.specs.declared.slot.PlainSlot.{PlainSlot}
-use Rattle.plain_state.specs.declared.slot.SlotId.{SlotId}
-use Rattle.plain_state.specs.declared.slot.Stage.TheVariants.{Free, Live}
-use Rattle.plain_state.specs.State.{Plain, new_slot, slot_at, stage_at}
-use Rattle.plain_state.specs.Lawful.{Lawful}
-use Rattle.plain_protocol.specs.Laws.{Starts, KeptByCalm, KeptByForeign}
-use Rattle.protocol_pairs.proofs.Held.{cell_live, first_live}
-use Rattle.protocol_pairs.proofs.Leaves.{calm_is_foreign, foreign_leaves}
-use Rattle.protocol_pairs.proofs.Notes.{none_noted}
-use Rattle.protocol_pairs.specs.Untouched.{IsUntouched}
+use Rattle.cdrc.specs.plain_state.declared.slot.PlainSlot.{PlainSlot}
+use Rattle.cdrc.specs.plain_state.declared.slot.SlotId.{SlotId}
+use Rattle.cdrc.specs.plain_state.declared.slot.Stage.TheVariants.{Free, Live}
+use Rattle.cdrc.specs.plain_state.State.{Plain, new_slot, slot_at, stage_at}
+use Rattle.cdrc.specs.plain_state.Lawful.{Lawful}
+use Rattle.cdrc.specs.plain_protocol.Laws.{Starts, KeptByCalm, KeptByForeign}
+use Rattle.cdrc.proofs.Below.protocol_pairs.Held.{cell_live, first_live}
+use Rattle.cdrc.proofs.Below.protocol_pairs.Leaves.{calm_is_foreign, foreign_leaves}
+use Rattle.cdrc.proofs.Below.protocol_pairs.Notes.{none_noted}
+use Rattle.cdrc.specs.protocol_pairs.Untouched.{IsUntouched}
 use Rattle.example_stack.specs.Views.{View, WasPushed, no_view}
 use Rattle.example_stack.specs.Stack.{IsNode, Stack, below, owns, top}
 

@@ -1,8 +1,8 @@
 -- The law is kept where a seat leaves.
 use Rattle.std.proofs.Common.{◌≡◌, ℕ, ◌<◌, List, length, refl, sym, ap, subst, arith}
-use Rattle.plain_state.specs.State.{Plain}
-use Rattle.plain_protocol.specs.Laws.{KeptByLeave}
-use Rattle.protocol_pairs.proofs.Notes.{noted_after, noted_before}
+use Rattle.cdrc.specs.plain_state.State.{Plain}
+use Rattle.cdrc.specs.plain_protocol.Laws.{KeptByLeave}
+use Rattle.cdrc.proofs.Below.protocol_pairs.Notes.{noted_after, noted_before}
 use Rattle.example_stack.specs.Views.{View, joined, no_view}
 use Rattle.example_stack.specs.Stack.{Stack}
 

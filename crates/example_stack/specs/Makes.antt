@@ -4,26 +4,26 @@ use Rattle.std.specs.Prelude.{Contains, slice_set, ◌==◌, if◌then◌else◌
 use Rattle.std.proofs.lemmas.Bool.{eq-eqb, eqb-true}
 use Rattle.std.proofs.lemmas.List.{get_or-set_same, set-get_or}
 use Rattle.std.proofs.lemmas.List.Elements.{Contains-append_left, Contains-append_right, Contains-append_cases, Contains-push}
-use Rattle.plain_state.specs.declared.act.EventPlace.{EventPlace}
-use Rattle.plain_state.specs.declared.act.EventPlace.TheVariants.{Cell, Field}
-use Rattle.plain_state.specs.declared.act.PlainAct.{PlainAct}
-use Rattle.plain_state.specs.declared.act.PlainAct.TheVariants as act
-use Rattle.plain_state.specs.declared.slot.SlotId.{SlotId}
-use Rattle.plain_state.specs.declared.slot.Stage.TheVariants.{Ended, Live}
-use Rattle.plain_state.specs.Places.{content}
-use Rattle.plain_state.specs.State.{Plain, seat_at, slot_at, stage_at}
-use Rattle.plain_state.specs.Steps.{Does, Replaces, word_of}
-use Rattle.plain_protocol.specs.Acts.{IsCalm}
-use Rattle.plain_protocol.specs.Laws.{Meets}
-use Rattle.plain_protocol.specs.Owns.{has_slot, object_of, own_part}
-use Rattle.protocol_pairs.specs.Spared.{HasOneOf}
-use Rattle.protocol_pairs.specs.Untouched.{IsUntouched}
-use Rattle.protocol_pairs.proofs.Held.{cell_live, first_live}
-use Rattle.protocol_pairs.proofs.Leaves.{calm_is_foreign, foreign_leaves}
-use Rattle.protocol_pairs.proofs.Owning.{owned_live}
-use Rattle.protocol_pairs.specs.Values.{value_of}
-use Rattle.protocol_pairs.proofs.Values.{one_of_value, value_in}
-use Rattle.protocol_pairs.proofs.Notes.{none_in, noted_here, noted_still}
+use Rattle.cdrc.specs.plain_state.declared.act.EventPlace.{EventPlace}
+use Rattle.cdrc.specs.plain_state.declared.act.EventPlace.TheVariants.{Cell, Field}
+use Rattle.cdrc.specs.plain_state.declared.act.PlainAct.{PlainAct}
+use Rattle.cdrc.specs.plain_state.declared.act.PlainAct.TheVariants as act
+use Rattle.cdrc.specs.plain_state.declared.slot.SlotId.{SlotId}
+use Rattle.cdrc.specs.plain_state.declared.slot.Stage.TheVariants.{Ended, Live}
+use Rattle.cdrc.specs.plain_state.Places.{content}
+use Rattle.cdrc.specs.plain_state.State.{Plain, seat_at, slot_at, stage_at}
+use Rattle.cdrc.specs.plain_state.Steps.{Does, Replaces, word_of}
+use Rattle.cdrc.specs.plain_protocol.Acts.{IsCalm}
+use Rattle.cdrc.specs.plain_protocol.Laws.{Meets}
+use Rattle.cdrc.specs.plain_protocol.Owns.{has_slot, object_of, own_part}
+use Rattle.cdrc.specs.protocol_pairs.Spared.{HasOneOf}
+use Rattle.cdrc.specs.protocol_pairs.Untouched.{IsUntouched}
+use Rattle.cdrc.proofs.Below.protocol_pairs.Held.{cell_live, first_live}
+use Rattle.cdrc.proofs.Below.protocol_pairs.Leaves.{calm_is_foreign, foreign_leaves}
+use Rattle.cdrc.proofs.Below.protocol_pairs.Owning.{owned_live}
+use Rattle.cdrc.specs.protocol_pairs.Values.{value_of}
+use Rattle.cdrc.proofs.Below.protocol_pairs.Values.{one_of_value, value_in}
+use Rattle.cdrc.proofs.Below.protocol_pairs.Notes.{none_in, noted_here, noted_still}
 use Rattle.example_stack.specs.Views.{View, WasPushed, no_view, view_at}
 use Rattle.example_stack.specs.Stack.{Stack, below, owns, top}
 use Rattle.example_stack.specs.Deeds.{IsStackPlace, SawIt, pop_next, push_next, see_next}

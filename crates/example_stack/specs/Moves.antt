@@ -4,14 +4,14 @@ use Rattle.std.proofs.Common.{◌≡◌, ◌≢◌, ◌⊎◌, inl, inr, ⊎_eli
 use Rattle.std.specs.Prelude.{Contains, slice_set, if◌then◌else◌}
 use Rattle.std.proofs.lemmas.Bool.{cases_lt}
 use Rattle.std.proofs.lemmas.List.{get_or-set_same, get_or-set_other, set_past}
-use Rattle.plain_state.specs.declared.slot.PlainSlot.{PlainSlot}
-use Rattle.plain_state.specs.declared.slot.SlotId.{SlotId}
-use Rattle.plain_state.specs.declared.slot.Stage.TheVariants.{Live}
-use Rattle.plain_state.specs.State.{Plain, new_slot, slot_at}
-use Rattle.plain_state.specs.Steps.{word_of}
-use Rattle.plain_state.proofs.Kit.{cases_slot, slot_is}
-use Rattle.plain_protocol.specs.Owns.{Object}
-use Rattle.protocol_pairs.proofs.Notes.{noted_cases, noted_still}
+use Rattle.cdrc.specs.plain_state.declared.slot.PlainSlot.{PlainSlot}
+use Rattle.cdrc.specs.plain_state.declared.slot.SlotId.{SlotId}
+use Rattle.cdrc.specs.plain_state.declared.slot.Stage.TheVariants.{Live}
+use Rattle.cdrc.specs.plain_state.State.{Plain, new_slot, slot_at}
+use Rattle.cdrc.specs.plain_state.Steps.{word_of}
+use Rattle.cdrc.proofs.Below.plain_state.Kit.{cases_slot, slot_is}
+use Rattle.cdrc.specs.plain_protocol.Owns.{Object}
+use Rattle.cdrc.proofs.Below.protocol_pairs.Notes.{noted_cases, noted_still}
 use Rattle.example_stack.specs.Views.{View, WasPushed, no_view, view_at}
 use Rattle.example_stack.specs.Stack.{IsNode, Stack, below, top}
 use Rattle.example_stack.specs.Deeds.{SawObject}

@@ -1,10 +1,10 @@
 -- The law of a stack. Its nodes are the objects of its kind; a node's value is its payload, and field 0 of a node
 -- holds the one below it. The cell holds the top.
 use Rattle.std.specs.Prelude.{ℕ, zero, suc, ◌≡◌, List, slice_index_or, Option, Some, None}
-use Rattle.plain_state.specs.declared.slot.SlotId.{SlotId}
-use Rattle.plain_state.specs.declared.slot.Stage.TheVariants.{Live}
-use Rattle.plain_state.specs.State.{Plain, slot_at, stage_at}
-use Rattle.plain_protocol.specs.Acts.{Owned}
+use Rattle.cdrc.specs.plain_state.declared.slot.SlotId.{SlotId}
+use Rattle.cdrc.specs.plain_state.declared.slot.Stage.TheVariants.{Live}
+use Rattle.cdrc.specs.plain_state.State.{Plain, slot_at, stage_at}
+use Rattle.cdrc.specs.plain_protocol.Acts.{Owned}
 use Rattle.example_stack.specs.Views.{View, WasPopped, WasPushed, WasSeen}
 
 -- the object in x lives, and is a node

@@ -3,8 +3,7 @@ ghost use Rattle.example_stack.specs.Deeds.{LinkReady, MakeReady, PopReady, Push
 ghost use Rattle.example_stack.specs.Keeps.{link_keeps, make_keeps, pop_keeps, push_keeps, see_keeps};
 
 use crate::law::StackLaw;
-use plain_protocol::Deed;
-use plain_state::PayloadKind;
+use cdrc::{Deed, PayloadKind};
 
 /// A node comes to life.
 #[derive(Clone, Copy, Debug, Drop)]

@@ -6,8 +6,7 @@ ghost use Rattle.example_stack.specs.Kept.{stack_calm, stack_foreign, stack_star
 ghost use Rattle.example_stack.specs.Leave.{stack_leave};
 
 use crate::view::View;
-use plain_protocol::Protocol;
-use plain_state::PayloadKind;
+use cdrc::{PayloadKind, Protocol};
 use std::marker::PhantomData;
 
 /// The law of a stack whose top is in one strong cell, and whose nodes have payloads of the kind `K`.

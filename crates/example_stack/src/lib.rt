@@ -22,11 +22,9 @@ mod popping;
 mod promises;
 mod pushing;
 mod seeing;
-#[cfg(test)]
-mod tests;
 mod view;
 
-pub use atomic_shared::LoadError;
+pub use cdrc::LoadError;
 pub use deeds::{LinkNode, MakeNode, PopNode, PushNode, SeeNode};
 pub use law::StackLaw;
 pub use making::make_node;

@@ -1,16 +1,13 @@
 //! A new node.
 ghost use Rattle.std.specs.Prelude.{◌≡◌, IfOk};
-ghost use Rattle.core_events.specs.Steps.{HasRoom};
-ghost use Rattle.control_word.specs.Resting.{IsAtRest};
+ghost use Rattle.cdrc.specs.core_events.Steps.{HasRoom};
+ghost use Rattle.cdrc.specs.control_word.Resting.{IsAtRest};
 ghost use Rattle.example_stack.specs.Calls.{HasNode};
-ghost use Rattle.domain_rule.specs.Views.{object_in};
+ghost use Rattle.cdrc.specs.domain_rule.Views.{object_in};
 
 use crate::deeds::MakeNode;
 use crate::law::StackLaw;
-use acquire_retire::{Domain, Seat};
-use counted_handles::Strong;
-use plain_state::PayloadKind;
-use slot_store::{MakeError, make};
+use cdrc::{Domain, MakeError, PayloadKind, Seat, Strong, make};
 
 /// Makes a node of a value, which isn't in the stack yet. Where none can be made, nothing has changed but the seat's
 /// trail.

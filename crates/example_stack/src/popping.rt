@@ -1,23 +1,21 @@
 //! A node is taken off a stack.
 ghost use Rattle.std.specs.Prelude.{◌≡◌, ◌<◌, ◌+◌, ◌∷◌, ◌++◌, [], IfErr, IfOk, OnErr};
-ghost use Rattle.plain_state.specs.declared.slot.Kind.TheVariants as kind;
-ghost use Rattle.core_events.specs.Steps.{CanGive, HasRoom, without_given};
-ghost use Rattle.atomic_shared.specs.Places.{named};
-ghost use Rattle.control_word.specs.Moves.{KnowsStill};
-ghost use Rattle.control_word.specs.Resting.{IsAtRest};
-ghost use Rattle.domain_rule.specs.Views.{object_in, own_of};
+ghost use Rattle.cdrc.specs.plain_state.declared.slot.Kind.TheVariants as kind;
+ghost use Rattle.cdrc.specs.core_events.Steps.{CanGive, HasRoom, without_given};
+ghost use Rattle.cdrc.specs.atomic_shared.Places.{named};
+ghost use Rattle.cdrc.specs.control_word.Moves.{KnowsStill};
+ghost use Rattle.cdrc.specs.control_word.Resting.{IsAtRest};
+ghost use Rattle.cdrc.specs.domain_rule.Views.{object_in, own_of};
 ghost use Rattle.example_stack.specs.Deeds.{SawIt};
 ghost use Rattle.example_stack.specs.Calls.{Changes, HasFewAdds, HasNode, IsWhy, Pops, popped_too};
 
 use crate::deeds::PopNode;
 use crate::law::StackLaw;
 use crate::seeing::{give_up, see};
-use acquire_retire::{Domain, Seat, SlotId};
-use atomic_shared::{LoadError, Lost, Place, try_replace};
-use control_word::drop_strong;
-use core_functions::held_as;
-use counted_handles::Strong;
-use plain_state::PayloadKind;
+use cdrc::{
+    Domain, LoadError, Lost, PayloadKind, Place, Seat, SlotId, Strong, drop_strong, held_as,
+    try_replace,
+};
 
 /// Takes the top off the stack, in one try: what is below it becomes the top, if that is still the same. `None` where
 /// the stack was found empty. Where a place of the stack changed meanwhile, or the seat has no add left of its quota,

@@ -1,13 +1,13 @@
 //! What the law gives a user of a stack.
 ghost use Rattle.std.specs.Prelude.{ℕ, ◌≡◌, List, Some};
-ghost use Rattle.plain_state.specs.State.{Plain, slot_at};
-ghost use Rattle.plain_state.specs.Lawful.{Lawful};
-ghost use Rattle.plain_state.specs.declared.slot.SlotId.{SlotId};
+ghost use Rattle.cdrc.specs.plain_state.State.{Plain, slot_at};
+ghost use Rattle.cdrc.specs.plain_state.Lawful.{Lawful};
+ghost use Rattle.cdrc.specs.plain_state.declared.slot.SlotId.{SlotId};
 ghost use Rattle.example_stack.specs.Views.{View, WasPopped, WasPushed};
 ghost use Rattle.example_stack.specs.Stack.{Stack, node_at};
 
 use crate::law::StackLaw;
-use plain_state::PayloadKind;
+use cdrc::PayloadKind;
 
 /// Each value that a seat popped was pushed, by some seat; and so was the value of each node of the stack, however deep
 /// it lies. The call does nothing.

@@ -1,23 +1,21 @@
 //! A node goes onto a stack.
 ghost use Rattle.std.specs.Prelude.{ℕ, ◌≡◌, ◌<◌, ◌∷◌, ◌++◌, [], IfErr, IfOk};
-ghost use Rattle.plain_state.specs.declared.slot.Kind.TheVariants as kind;
-ghost use Rattle.plain_state.specs.Lists.{times};
-ghost use Rattle.core_events.specs.Steps.{CanGive, HasRoom, IsContent, without_given};
-ghost use Rattle.atomic_shared.specs.Places.{named};
-ghost use Rattle.control_word.specs.Moves.{KnowsStill};
-ghost use Rattle.control_word.specs.Resting.{IsAtRest, IsSpent};
-ghost use Rattle.domain_rule.specs.Views.{object_in, own_of};
+ghost use Rattle.cdrc.specs.plain_state.declared.slot.Kind.TheVariants as kind;
+ghost use Rattle.cdrc.specs.plain_state.Lists.{times};
+ghost use Rattle.cdrc.specs.core_events.Steps.{CanGive, HasRoom, IsContent, without_given};
+ghost use Rattle.cdrc.specs.atomic_shared.Places.{named};
+ghost use Rattle.cdrc.specs.control_word.Moves.{KnowsStill};
+ghost use Rattle.cdrc.specs.control_word.Resting.{IsAtRest, IsSpent};
+ghost use Rattle.cdrc.specs.domain_rule.Views.{object_in, own_of};
 ghost use Rattle.example_stack.specs.Deeds.{SawIt};
 ghost use Rattle.example_stack.specs.Calls.{HasNode, IsWhy, pushed_too};
 
 use crate::deeds::{LinkNode, PushNode};
 use crate::law::StackLaw;
 use crate::seeing::see;
-use acquire_retire::{Domain, Seat, SlotId};
-use atomic_shared::{LoadError, Place, store, try_replace};
-use core_functions::held_as;
-use counted_handles::Strong;
-use plain_state::PayloadKind;
+use cdrc::{
+    Domain, LoadError, PayloadKind, Place, Seat, SlotId, Strong, held_as, store, try_replace,
+};
 
 /// A node that wasn't pushed, and why: the top changed meanwhile, or the seat has no add left of its quota.
 #[derive(Debug, Drop)]

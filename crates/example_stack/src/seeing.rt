@@ -1,20 +1,16 @@
 //! What a seat sees in a stack, and what it gives up of that.
 ghost use Rattle.std.specs.Prelude.{◌≡◌, IfErr, IfOk, OnErr};
-ghost use Rattle.plain_state.specs.declared.slot.Kind.TheVariants as kind;
-ghost use Rattle.core_events.specs.Steps.{CanGive, HasRoom, without_given};
-ghost use Rattle.atomic_shared.specs.Loading.{CanLoad};
-ghost use Rattle.atomic_shared.specs.Places.{named};
-ghost use Rattle.control_word.specs.Moves.{KnowsStill};
-ghost use Rattle.control_word.specs.Resting.{IsAtRest, IsSpent};
+ghost use Rattle.cdrc.specs.plain_state.declared.slot.Kind.TheVariants as kind;
+ghost use Rattle.cdrc.specs.core_events.Steps.{CanGive, HasRoom, without_given};
+ghost use Rattle.cdrc.specs.atomic_shared.Loading.{CanLoad};
+ghost use Rattle.cdrc.specs.atomic_shared.Places.{named};
+ghost use Rattle.cdrc.specs.control_word.Moves.{KnowsStill};
+ghost use Rattle.cdrc.specs.control_word.Resting.{IsAtRest, IsSpent};
 ghost use Rattle.example_stack.specs.Calls.{IsPlaceOf, IsWhy, Sees};
 
 use crate::deeds::SeeNode;
 use crate::law::StackLaw;
-use acquire_retire::{Domain, Seat};
-use atomic_shared::{LoadError, Place, try_load};
-use control_word::drop_strong;
-use counted_handles::Strong;
-use plain_state::PayloadKind;
+use cdrc::{Domain, LoadError, PayloadKind, Place, Seat, Strong, drop_strong, try_load};
 
 /// A reference to what the stack has in a place: its top, or what is below a node.
 pub(crate) fn see<K: PayloadKind>(

@@ -1,8 +1,8 @@
 -- A seat that may begin any call.
-use Rattle.core_events.specs.Steps.{HasRoom}
-use Rattle.acquire_retire.specs.Domains.{DomainState}
-use Rattle.acquire_retire.specs.Seats.{SeatState}
-use Rattle.control_word.specs.Resting.{IsAtRest}
+use Rattle.cdrc.specs.core_events.Steps.{HasRoom}
+use Rattle.cdrc.specs.acquire_retire.Domains.{DomainState}
+use Rattle.cdrc.specs.acquire_retire.Seats.{SeatState}
+use Rattle.cdrc.specs.control_word.Resting.{IsAtRest}
 
 -- it is in no call, and has room for what a store retires
 abbrev pub IsFree : {P V : Type 0} → DomainState P → SeatState V → Type 0

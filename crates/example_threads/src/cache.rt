@@ -1,19 +1,13 @@
 //! A cache that two threads ask before they make a value anew.
 ghost use Rattle.std.specs.Prelude.{◌≡◌, ◌<◌, IfSome};
-ghost use Rattle.plain_state.specs.Lists.{times};
+ghost use Rattle.cdrc.specs.plain_state.Lists.{times};
 ghost use Rattle.example_threads.specs.Free.{IsFree};
 
 use crate::fault::Fault;
 use crate::numbers::{Counted, NumberKind, TURNS, payload_of};
 use crate::opening::open;
-use acquire_retire::{Domain, Seat};
-use control_word::drop_strong;
-use counted_handles::Strong;
-use deleter::Deleter;
+use cdrc::{Deleter, Domain, OutOfMemory, Seat, Spares, Strong, drop_strong, make, read, reap};
 use example_cache::{CacheLaw, recall, remember};
-use out_of_memory::OutOfMemory;
-use protocol_pairs::Spares;
-use slot_store::{make, read, reap};
 use std::alloc::Global;
 use std::thread;
 use std::thread::Threads;

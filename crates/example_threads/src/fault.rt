@@ -1,6 +1,5 @@
 //! Why the examples didn't run to their end.
-use acquire_retire::OpenError;
-use out_of_memory::OutOfMemory;
+use cdrc::{OpenError, OutOfMemory};
 use std::io;
 use thiserror::Error;
 

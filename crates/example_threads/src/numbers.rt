@@ -2,7 +2,7 @@
 ghost use Rattle.std.specs.Prelude.{⊤};
 ghost use Rattle.example_threads.specs.Numbers.{weightless};
 
-use plain_state::PayloadKind;
+use cdrc::PayloadKind;
 
 /// How often each thread does its work.
 pub const TURNS: u64 = 1000;

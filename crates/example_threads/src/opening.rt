@@ -3,8 +3,7 @@ ghost use Rattle.std.specs.Prelude.{◌≡◌, All, IfOk};
 ghost use Rattle.example_threads.specs.Free.{IsFree};
 
 use crate::fault::Fault;
-use acquire_retire::{Domain, Quota, Seat, Shape, open_domain};
-use plain_protocol::Protocol;
+use cdrc::{Domain, Protocol, Quota, Seat, Shape, open_domain};
 use std::alloc::Global;
 
 /// Two seats, more slots than objects are ever made at once, and a cell of each kind.

@@ -1,1 +1,1 @@
-pub mod Commons
+pub mod Below

@@ -1,21 +1,21 @@
 -- What a push does and leaves, on a queue of either form, and why nothing was pushed.
 use Rattle.std.specs.Prelude.{ℕ, ◌≡◌, List}
-use Rattle.plain_state.specs.declared.slot.SlotId.{SlotId}
-use Rattle.core_events.specs.Views.{without}
-use Rattle.acquire_retire.specs.Domains.{DomainState}
-use Rattle.acquire_retire.specs.Seats.{SeatState}
-use Rattle.queue_law.specs.declared.view.Form.{Form}
-use Rattle.queue_law.specs.declared.view.Form.TheVariants.{Linked, Double}
-use Rattle.queue_law.specs.declared.view.View.{View}
-use Rattle.queue_law.specs.Views.{no_flight}
-use Rattle.queue_protocol.specs.declared.law.QueueLaw.{QueueLaw}
-use Rattle.linked_queue.specs.declared.queue.PushError.{PushError}
-use Rattle.linked_queue.specs.declared.queue.PushError.TheVariants as unpushed
-use Rattle.linked_queue.specs.Pops.{item_in}
-use Rattle.linked_queue.specs.PushLosses.{LosesPush}
-use Rattle.linked_queue.specs.Pushes.{IsWhyRefused, PushesBy, pushed_too}
-use Rattle.linked_queue.specs.Queues.{deeds_in}
-use Rattle.linked_queue.specs.Waits.{LosesAnyNode, PushesAtLast}
+use Rattle.double_link_queue.specs.plain_state.declared.slot.SlotId.{SlotId}
+use Rattle.double_link_queue.specs.core_events.Views.{without}
+use Rattle.double_link_queue.specs.acquire_retire.Domains.{DomainState}
+use Rattle.double_link_queue.specs.acquire_retire.Seats.{SeatState}
+use Rattle.double_link_queue.specs.queue_law.declared.view.Form.{Form}
+use Rattle.double_link_queue.specs.queue_law.declared.view.Form.TheVariants.{Linked, Double}
+use Rattle.double_link_queue.specs.queue_law.declared.view.View.{View}
+use Rattle.double_link_queue.specs.queue_law.Views.{no_flight}
+use Rattle.double_link_queue.specs.queue_protocol.declared.law.QueueLaw.{QueueLaw}
+use Rattle.double_link_queue.specs.linked_queue.declared.queue.PushError.{PushError}
+use Rattle.double_link_queue.specs.linked_queue.declared.queue.PushError.TheVariants as unpushed
+use Rattle.double_link_queue.specs.linked_queue.Pops.{item_in}
+use Rattle.double_link_queue.specs.linked_queue.PushLosses.{LosesPush}
+use Rattle.double_link_queue.specs.linked_queue.Pushes.{IsWhyRefused, PushesBy, pushed_too}
+use Rattle.double_link_queue.specs.linked_queue.Queues.{deeds_in}
+use Rattle.double_link_queue.specs.linked_queue.Waits.{LosesAnyNode, PushesAtLast}
 use Rattle.double_link_queue.specs.Leaving.{LeavesBoth}
 use Rattle.double_link_queue.specs.Pushes.{landed_in}
 use Rattle.double_link_queue.specs.Steps as double

@@ -1,10 +1,10 @@
 -- When a call on a queue of either form may be made: what the domain has.
 use Rattle.std.specs.Prelude.{ℕ}
-use Rattle.acquire_retire.specs.Domains.{DomainState}
-use Rattle.queue_law.specs.declared.view.Form.{Form}
-use Rattle.queue_law.specs.declared.view.Form.TheVariants.{Linked, Double}
-use Rattle.queue_protocol.specs.declared.law.QueueLaw.{QueueLaw}
-use Rattle.linked_queue.specs.Queues.{IsQueueOf}
+use Rattle.double_link_queue.specs.acquire_retire.Domains.{DomainState}
+use Rattle.double_link_queue.specs.queue_law.declared.view.Form.{Form}
+use Rattle.double_link_queue.specs.queue_law.declared.view.Form.TheVariants.{Linked, Double}
+use Rattle.double_link_queue.specs.queue_protocol.declared.law.QueueLaw.{QueueLaw}
+use Rattle.double_link_queue.specs.linked_queue.Queues.{IsQueueOf}
 use Rattle.double_link_queue.specs.Queues.{IsDoubleOf}
 use Rattle.hand_queues.specs.declared.any_queue.AnyQueue.{AnyQueue}
 use Rattle.hand_queues.specs.declared.any_queue.AnyQueue.TheVariants as any

@@ -3,11 +3,10 @@ ghost use Rattle.hand_queues.specs.Queues.{IsAnyOf};
 
 use crate::any_queue::AnyQueue;
 use crate::hand_queue::HandQueue;
-use acquire_retire::{Domain, Seat};
-use counted_handles::{Spent, Strong};
-use double_link_queue::DoubleQueue;
-use linked_queue::{LinkedQueue, PopError, PushError, PushRefused};
-use queue_protocol::HasQueue;
+use double_link_queue::{
+    Domain, DoubleQueue, HasQueue, LinkedQueue, PopError, PushError, PushRefused, Seat, Spent,
+    Strong,
+};
 use std::sync::Wait;
 
 impl HandQueue for AnyQueue {

@@ -2,11 +2,9 @@
 ghost use Rattle.double_link_queue.specs.Queues.{IsDoubleOf};
 
 use crate::hand_queue::HandQueue;
-use acquire_retire::{Domain, Seat};
-use counted_handles::{Spent, Strong};
-use double_link_queue::DoubleQueue;
-use linked_queue::{PopError, PushError, PushRefused};
-use queue_protocol::HasQueue;
+use double_link_queue::{
+    Domain, DoubleQueue, HasQueue, PopError, PushError, PushRefused, Seat, Spent, Strong,
+};
 use std::sync::Wait;
 
 impl HandQueue for DoubleQueue {

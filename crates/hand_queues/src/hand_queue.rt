@@ -1,30 +1,27 @@
 //! What each call on a queue tells, whichever form the queue has.
 ghost use Rattle.std.specs.Prelude.{◌≡◌, ◌≤◌, ◌<◌, ◌+◌, if◌then◌else◌, IfErr, IfOk, IfSome, OnErr, None, Some};
-ghost use Rattle.plain_state.specs.Lists.{times};
-ghost use Rattle.core_events.specs.Steps.{HasRoom};
-ghost use Rattle.domain_rule.specs.Views.{IsAlone};
-ghost use Rattle.acquire_retire.specs.Domains.{DomainState};
-ghost use Rattle.atomic_shared.specs.Places.{named};
-ghost use Rattle.control_word.specs.Resting.{IsAtRest, IsSpent};
-ghost use Rattle.slot_store.specs.declared.making.MakeError.TheVariants as unmade;
-ghost use Rattle.part_calls.specs.Parts.{StaysBeside, as_part, seen_by};
-ghost use Rattle.queue_protocol.specs.declared.law.QueueLaw.{QueueLaw};
-ghost use Rattle.linked_queue.specs.declared.queue.PopError.TheVariants as unpopped;
-ghost use Rattle.linked_queue.specs.Attaching.{LooksAtHead, attached_in, is_slot};
-ghost use Rattle.linked_queue.specs.Leaving.{Leaves, found_by};
-ghost use Rattle.linked_queue.specs.Losses.{IsWhyUnpopped, LosesAtHead};
-ghost use Rattle.linked_queue.specs.Pops.{OwnsBoth, Pops, PopsAtHead, PopsAtHeadWith, PopsWith, both_by, item_in, named_both};
-ghost use Rattle.linked_queue.specs.Pushes.{UsesNone, back_of, cause_of};
-ghost use Rattle.linked_queue.specs.Queues.{IsAttached, ends_of};
-ghost use Rattle.linked_queue.specs.Shuts.{CanShut, Shuts, shut_in};
-ghost use Rattle.linked_queue.specs.Waits.{AttachesAtLast, IsWhyNeverPushed, IsWhyShort, PopsAtLast};
+ghost use Rattle.double_link_queue.specs.plain_state.Lists.{times};
+ghost use Rattle.double_link_queue.specs.core_events.Steps.{HasRoom};
+ghost use Rattle.double_link_queue.specs.domain_rule.Views.{IsAlone};
+ghost use Rattle.double_link_queue.specs.acquire_retire.Domains.{DomainState};
+ghost use Rattle.double_link_queue.specs.atomic_shared.Places.{named};
+ghost use Rattle.double_link_queue.specs.control_word.Resting.{IsAtRest, IsSpent};
+ghost use Rattle.double_link_queue.specs.slot_store.declared.making.MakeError.TheVariants as unmade;
+ghost use Rattle.double_link_queue.specs.part_calls.Parts.{StaysBeside, as_part, seen_by};
+ghost use Rattle.double_link_queue.specs.queue_protocol.declared.law.QueueLaw.{QueueLaw};
+ghost use Rattle.double_link_queue.specs.linked_queue.declared.queue.PopError.TheVariants as unpopped;
+ghost use Rattle.double_link_queue.specs.linked_queue.Attaching.{LooksAtHead, attached_in, is_slot};
+ghost use Rattle.double_link_queue.specs.linked_queue.Leaving.{Leaves, found_by};
+ghost use Rattle.double_link_queue.specs.linked_queue.Losses.{IsWhyUnpopped, LosesAtHead};
+ghost use Rattle.double_link_queue.specs.linked_queue.Pops.{OwnsBoth, Pops, PopsAtHead, PopsAtHeadWith, PopsWith, both_by, item_in, named_both};
+ghost use Rattle.double_link_queue.specs.linked_queue.Pushes.{UsesNone, back_of, cause_of};
+ghost use Rattle.double_link_queue.specs.linked_queue.Queues.{IsAttached, ends_of};
+ghost use Rattle.double_link_queue.specs.linked_queue.Shuts.{CanShut, Shuts, shut_in};
+ghost use Rattle.double_link_queue.specs.linked_queue.Waits.{AttachesAtLast, IsWhyNeverPushed, IsWhyShort, PopsAtLast};
 ghost use Rattle.double_link_queue.specs.Pushes.{PushesNothing};
 ghost use Rattle.hand_queues.specs.Pushes.{IsWhyUnpushed, LosesNodeIn, Pushes, PushesAtLastIn, PushesIn, most_adds};
 
-use acquire_retire::{Domain, Seat};
-use counted_handles::{Spent, Strong};
-use linked_queue::{PopError, PushError, PushRefused};
-use queue_protocol::HasQueue;
+use double_link_queue::{Domain, HasQueue, PopError, PushError, PushRefused, Seat, Spent, Strong};
 use std::sync::Wait;
 
 /// A queue by which seats hand references to objects on, first in, first out. A domain has it whose protocol is a

@@ -1,20 +1,15 @@
 //! How a queue of either form is laid.
 ghost use Rattle.std.specs.Prelude.{◌≡◌, ◌≤◌, ◌+◌, IfErr, IfOk, OnErr};
-ghost use Rattle.core_events.specs.Steps.{HasRoom};
-ghost use Rattle.control_word.specs.Resting.{IsAtRest};
-ghost use Rattle.part_calls.specs.Parts.{StaysBeside, as_part, seen_by};
-ghost use Rattle.linked_queue.specs.Leaving.{Leaves};
-ghost use Rattle.linked_queue.specs.Nodes.{IsWhyUnlaid, Lays, laid_in};
-ghost use Rattle.linked_queue.specs.Queues.{CanLay, IsAttached, deeds_in};
+ghost use Rattle.double_link_queue.specs.core_events.Steps.{HasRoom};
+ghost use Rattle.double_link_queue.specs.control_word.Resting.{IsAtRest};
+ghost use Rattle.double_link_queue.specs.part_calls.Parts.{StaysBeside, as_part, seen_by};
+ghost use Rattle.double_link_queue.specs.linked_queue.Leaving.{Leaves};
+ghost use Rattle.double_link_queue.specs.linked_queue.Nodes.{IsWhyUnlaid, Lays, laid_in};
+ghost use Rattle.double_link_queue.specs.linked_queue.Queues.{CanLay, IsAttached, deeds_in};
 ghost use Rattle.hand_queues.specs.Queues.{IsAnyOf, queue_in};
 
 use crate::any_queue::AnyQueue;
-use acquire_retire::{Domain, Seat};
-use double_link_queue::DoubleQueue;
-use linked_queue::LinkedQueue;
-use queue_law::Form;
-use queue_protocol::HasQueue;
-use slot_store::MakeError;
+use double_link_queue::{Domain, DoubleQueue, Form, HasQueue, LinkedQueue, MakeError, Seat};
 
 impl AnyQueue {
     /// Lays a queue of this form over two cells: makes the dummy, and puts it into the tail cell and then into the head

@@ -23,12 +23,10 @@ mod double;
 mod hand_queue;
 mod laying;
 mod linked;
-#[cfg(test)]
-mod tests;
 
 pub use any_queue::AnyQueue;
-pub use counted_handles::{Spent, Strong};
+pub use double_link_queue::{
+    Deleter, FindSet, Form, LearnItem, LearnTail, MakeError, NodeKind, PopError, PushError,
+    PushRefused, QueueLaw, Spent, Strong, collect, reap,
+};
 pub use hand_queue::HandQueue;
-pub use linked_queue::{PopError, PushError, PushRefused};
-pub use queue_law::Form;
-pub use slot_store::MakeError;

@@ -1,11 +1,10 @@
 //! A linked queue as a queue by which seats hand references on. Each call is the queue's own.
-ghost use Rattle.linked_queue.specs.Queues.{IsQueueOf};
+ghost use Rattle.double_link_queue.specs.linked_queue.Queues.{IsQueueOf};
 
 use crate::hand_queue::HandQueue;
-use acquire_retire::{Domain, Seat};
-use counted_handles::{Spent, Strong};
-use linked_queue::{LinkedQueue, PopError, PushError, PushRefused};
-use queue_protocol::HasQueue;
+use double_link_queue::{
+    Domain, HasQueue, LinkedQueue, PopError, PushError, PushRefused, Seat, Spent, Strong,
+};
 use std::sync::Wait;
 
 impl HandQueue for LinkedQueue {

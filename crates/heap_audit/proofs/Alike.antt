@@ -1,6 +1,6 @@
 -- What is found among slots with one property, along one relation, is found among those that have another one alike.
 use Rattle.std.proofs.Common.{◌≡◌, ℕ, zero, suc, List, [], ◌∷◌, sym, ap, ◌∙◌, inl, inr}
-use Rattle.plain_state.specs.declared.slot.SlotId.{SlotId}
+use Rattle.deleter.specs.plain_state.declared.slot.SlotId.{SlotId}
 use Rattle.heap_audit.specs.Paths.{Path, LeadsTo}
 use Rattle.heap_audit.specs.Reached.{HowMany}
 use Rattle.heap_audit.specs.Walks.{GoesTo, GoesRound, IsFoundAmong}

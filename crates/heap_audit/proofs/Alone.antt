@@ -3,8 +3,8 @@ use Rattle.std.proofs.Common.{◌≡◌, ◌≢◌, ℕ, ◌-◌, ◌<◌, ◌�
 use Rattle.std.specs.List.{AllPairs}
 use Rattle.std.proofs.lemmas.List.{get_or_at, get_or_append_left, length-reverse, get_or-reverse}
 use Rattle.std.proofs.lemmas.List.Elements.{All-cons, All-nil, All-tail, All-contains, Contains-append_cases, Contains-append_left, Contains-append_right}
-use Rattle.plain_state.specs.declared.slot.SlotId.{SlotId}
-use Rattle.plain_state.specs.declared.image.Heap.{Heap}
+use Rattle.deleter.specs.plain_state.declared.slot.SlotId.{SlotId}
+use Rattle.deleter.specs.plain_state.declared.image.Heap.{Heap}
 use Rattle.heap_audit.specs.Paths.{Path}
 use Rattle.heap_audit.specs.Reached.{HasField, IsUnreached}
 use Rattle.heap_audit.specs.Walks.{rank_of, IsLeast, GoesTo, BeginsLeast, IsFound, IsFoundAmong, HasDistinctRanks}

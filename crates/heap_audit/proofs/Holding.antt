@@ -4,8 +4,8 @@ use Rattle.std.proofs.Math.ListN.{set}
 use Rattle.std.proofs.lemmas.Bool.{cond-true, cond-false, eq-eqb, ne_eqb, cases_eq, cases_lt}
 use Rattle.std.proofs.lemmas.List.{get_or-set_same, get_or-set_other}
 use Rattle.std.proofs.lemmas.List.Sums.{sum_by-le, sum_by_more}
-use Rattle.plain_state.specs.declared.slot.SlotId.{SlotId}
-use Rattle.plain_state.specs.declared.image.SlotImage.{SlotImage}
+use Rattle.deleter.specs.plain_state.declared.slot.SlotId.{SlotId}
+use Rattle.deleter.specs.plain_state.declared.image.SlotImage.{SlotImage}
 use Rattle.heap_audit.specs.Heaps.{held, fields_holding}
 use Rattle.heap_audit.specs.Tables.{CountsWord, CountsFields}
 

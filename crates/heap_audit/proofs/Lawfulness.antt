@@ -3,12 +3,12 @@ use Rattle.std.proofs.Common.{◌≡◌, ℕ, ◌+◌, ◌<◌, ◌≤◌, ◌^�
 use Rattle.std.proofs.lemmas.Bool.{cond-true, cond-false, cases_lt, lt-ltb, le-ltb, ne_eqb, and_right}
 use Rattle.std.proofs.lemmas.List.{get_or_past}
 use Rattle.std.proofs.lemmas.List.Sums.{sum_by-le, sum_by-cons, get_or-le-sum_by}
-use Rattle.plain_state.specs.declared.slot.Kind.TheVariants.{Strong}
-use Rattle.plain_state.specs.declared.slot.SlotId.{SlotId}
-use Rattle.plain_state.specs.declared.image.SlotImage.{SlotImage}
-use Rattle.plain_state.specs.declared.image.Heap.{Heap}
-use Rattle.plain_state.specs.Images.{free_image}
-use Rattle.plain_state.specs.Lists.{entry_times, is_entry, is_slot, same_kind}
+use Rattle.deleter.specs.plain_state.declared.slot.Kind.TheVariants.{Strong}
+use Rattle.deleter.specs.plain_state.declared.slot.SlotId.{SlotId}
+use Rattle.deleter.specs.plain_state.declared.image.SlotImage.{SlotImage}
+use Rattle.deleter.specs.plain_state.declared.image.Heap.{Heap}
+use Rattle.deleter.specs.plain_state.Images.{free_image}
+use Rattle.deleter.specs.plain_state.Lists.{entry_times, is_entry, is_slot, same_kind}
 use Rattle.heap_audit.specs.Heaps.{slot, IsLive, image_of, names, held, fields_holding, in_fields, in_cells, in_deferred, entries, strong_count, HasNullFields, ObeysAt, IsLawful, IsInRange, HasFieldsWithin}
 use Rattle.heap_audit.specs.Paths.{Path}
 use Rattle.heap_audit.specs.Reached.{HasField, IsRoot, IsReached, IsUnreached}

@@ -1,7 +1,7 @@
 -- The slot of least rank with a property, and how many have it.
 use Rattle.std.proofs.Common.{◌≡◌, ℕ, ◌+◌, ◌<◌, ◌≤◌, ◌⊎◌, zero, suc, List, Option, Some, None, IfSome, IsSome, cond, arith, rules, sym, ◌∙◌, subst, inl, inr, refl, add-one}
 use Rattle.std.proofs.lemmas.Bool.{cases_eq, cond-true, cond-false, cond_both, leb-true, leb-false, eq-eqb, ne_eqb}
-use Rattle.plain_state.specs.declared.slot.SlotId.{SlotId}
+use Rattle.deleter.specs.plain_state.declared.slot.SlotId.{SlotId}
 use Rattle.heap_audit.specs.Heaps.{names}
 use Rattle.heap_audit.specs.Reached.{HowMany}
 use Rattle.heap_audit.specs.Walks.{rank_of, IsLeast}

@@ -1,3 +1,4 @@
+pub mod Below
 pub mod Going
 pub mod Holding
 pub mod Weights

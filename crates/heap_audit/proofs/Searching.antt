@@ -4,8 +4,8 @@ use Rattle.std.specs.List.{AllPairs}
 use Rattle.std.proofs.lemmas.Bool.{cases_lt, false≢true}
 use Rattle.std.proofs.lemmas.List.{get_or_past}
 use Rattle.std.proofs.lemmas.List.Elements.{All-nil, All-cons}
-use Rattle.plain_state.specs.declared.slot.SlotId.{SlotId}
-use Rattle.plain_state.specs.declared.image.Heap.{Heap}
+use Rattle.deleter.specs.plain_state.declared.slot.SlotId.{SlotId}
+use Rattle.deleter.specs.plain_state.declared.image.Heap.{Heap}
 use Rattle.heap_audit.specs.Heaps.{IsLawful}
 use Rattle.heap_audit.specs.Paths.{Path}
 use Rattle.heap_audit.specs.Reached.{HasField, IsUnreached}

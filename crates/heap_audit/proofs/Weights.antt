@@ -5,7 +5,7 @@ use Rattle.std.proofs.lemmas.Bool.{cases_lt}
 use Rattle.std.proofs.Common.{◌≡◌, ℕ, ◌+◌, ◌<◌, ◌≤◌, ◌^◌, List, length, get_or, take, sum_by, ap, ◌∙◌, add-zero}
 use Rattle.std.proofs.lemmas.Bool.{cond-true, cond-false, lt-ltb, le-ltb}
 use Rattle.std.proofs.lemmas.List.Sums.{sum_by_more}
-use Rattle.plain_state.specs.declared.image.SlotImage.{SlotImage}
+use Rattle.deleter.specs.plain_state.declared.image.SlotImage.{SlotImage}
 use Rattle.heap_audit.specs.Heaps.{weight_of}
 
 module _ (weight : List ℕ → ℕ) (xs : List SlotImage) (i : ℕ) (d : SlotImage) where

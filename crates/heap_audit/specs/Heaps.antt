@@ -1,12 +1,12 @@
 -- What the words of a heap say: which slots are Live, what holds a slot, and which heaps are lawful.
 use Rattle.std.specs.Prelude.{ℕ, ◌≡◌, ◌<◌, ◌≤◌, ◌+◌, ◌-◌, ◌^◌, ◌==◌, List, length, All, Bool, nat_lt, count_by, sum_by, slice_index, if◌then◌else◌}
-use Rattle.plain_state.specs.declared.slot.Kind.TheVariants.{Strong}
-use Rattle.plain_state.specs.declared.slot.SlotId.{SlotId}
-use Rattle.plain_state.specs.declared.image.SlotImage.{SlotImage}
-use Rattle.plain_state.specs.declared.image.Heap.{Heap}
-use Rattle.plain_state.specs.Images.{slot_image}
-use Rattle.counter_word.specs.Words.{value}
-use Rattle.plain_state.specs.Lists.{Entry, entry_times}
+use Rattle.deleter.specs.plain_state.declared.slot.Kind.TheVariants.{Strong}
+use Rattle.deleter.specs.plain_state.declared.slot.SlotId.{SlotId}
+use Rattle.deleter.specs.plain_state.declared.image.SlotImage.{SlotImage}
+use Rattle.deleter.specs.plain_state.declared.image.Heap.{Heap}
+use Rattle.deleter.specs.plain_state.Images.{slot_image}
+use Rattle.deleter.specs.counter_word.Words.{value}
+use Rattle.deleter.specs.plain_state.Lists.{Entry, entry_times}
 
 -- the slot of this number
 abbrev pub slot : ℕ → SlotId

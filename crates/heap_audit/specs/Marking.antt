@@ -1,8 +1,8 @@
 -- Marks over the slots of a heap, and the list of what is marked.
 use Rattle.std.specs.Prelude.{ℕ, ◌≡◌, ◌≢◌, ◌<◌, ◌+◌, ◌⊎◌, Bool, true, false, List, [], ◌∷◌, ◌++◌, length, All, Contains, count_by, slice_index_or, slice_set}
 use Rattle.std.specs.List.{AllPairs}
-use Rattle.plain_state.specs.declared.slot.SlotId.{SlotId}
-use Rattle.plain_state.specs.declared.image.Heap.{Heap}
+use Rattle.deleter.specs.plain_state.declared.slot.SlotId.{SlotId}
+use Rattle.deleter.specs.plain_state.declared.image.Heap.{Heap}
 use Rattle.heap_audit.specs.Heaps.{slot}
 use Rattle.heap_audit.specs.Reached.{HasField, IsRoot, IsReached}
 

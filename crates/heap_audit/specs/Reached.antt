@@ -1,7 +1,7 @@
 -- Which slots are reached from what is owned, from a strong cell or from a deferred strong entry.
 use Rattle.std.specs.Prelude.{ℕ, ◌≡◌, ◌<◌, ◌⊎◌, suc, zero}
-use Rattle.plain_state.specs.declared.slot.SlotId.{SlotId}
-use Rattle.plain_state.specs.declared.image.Heap.{Heap}
+use Rattle.deleter.specs.plain_state.declared.slot.SlotId.{SlotId}
+use Rattle.deleter.specs.plain_state.declared.image.Heap.{Heap}
 use Rattle.heap_audit.specs.Heaps.{IsLive, image_of, fields_holding, in_cells, in_deferred, owned}
 use Rattle.heap_audit.specs.Paths.{LeadsTo}
 

@@ -1,9 +1,9 @@
 -- Tables that have one entry for each slot of a heap.
 use Rattle.std.specs.Prelude.{ℕ, ◌≡◌, ◌≢◌, ◌<◌, ◌+◌, Contains, Bool, true, List, ◌∷◌, ◌++◌, length, slice_index, slice_index_or, reverse, Option, Some, None, nat_le, if◌then◌else◌}
 use Rattle.std.specs.List.{AllPairs}
-use Rattle.plain_state.specs.declared.slot.SlotId.{SlotId}
-use Rattle.plain_state.specs.declared.image.SlotImage.{SlotImage}
-use Rattle.plain_state.specs.declared.image.Heap.{Heap}
+use Rattle.deleter.specs.plain_state.declared.slot.SlotId.{SlotId}
+use Rattle.deleter.specs.plain_state.declared.image.SlotImage.{SlotImage}
+use Rattle.deleter.specs.plain_state.declared.image.Heap.{Heap}
 use Rattle.heap_audit.specs.Heaps.{names, held, fields_holding, in_fields}
 use Rattle.heap_audit.specs.Paths.{Path}
 use Rattle.heap_audit.specs.Reached.{HasField, IsReached, IsUnreached}

@@ -1,8 +1,8 @@
 -- Walks round a cycle of strong fields, and the one that an audit finds.
 use Rattle.std.specs.Prelude.{ℕ, ◌≡◌, ◌≢◌, ◌<◌, ◌≤◌, List, [], ◌∷◌, ◌++◌, length, reverse, All, slice_index}
 use Rattle.std.specs.List.{AllPairs}
-use Rattle.plain_state.specs.declared.slot.SlotId.{SlotId}
-use Rattle.plain_state.specs.declared.image.Heap.{Heap}
+use Rattle.deleter.specs.plain_state.declared.slot.SlotId.{SlotId}
+use Rattle.deleter.specs.plain_state.declared.image.Heap.{Heap}
 use Rattle.heap_audit.specs.Paths.{Path}
 use Rattle.heap_audit.specs.Reached.{HasField, IsUnreached}
 

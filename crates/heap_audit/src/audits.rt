@@ -1,6 +1,6 @@
 //! The audit itself.
 ghost use Rattle.std.specs.Prelude.{◌≡◌, ◌<◌, ◌≤◌, ◌^◌, [], length, IfOk};
-ghost use Rattle.plain_state.specs.Limits.{most_slots};
+ghost use Rattle.deleter.specs.plain_state.Limits.{most_slots};
 ghost use Rattle.deleter.specs.Weighing.{Weighs};
 ghost use Rattle.heap_audit.specs.Heaps.{slot, IsLawful, IsInRange, HasFittingPayloads, live_slots, live_bytes};
 ghost use Rattle.heap_audit.specs.Reached.{IsUnreached, HowMany};
@@ -10,9 +10,8 @@ use crate::finding::Audit;
 use crate::reach::reached_slots;
 use crate::search::find_walk;
 use crate::summing::sum_up;
-use deleter::Deleter;
+use deleter::{Deleter, Heap, PayloadKind};
 use out_of_memory::OutOfMemory;
-use plain_state::{Heap, PayloadKind};
 use std::alloc::Global;
 
 /// The audit of a lawful heap of at most 2^22 slots, all of whose names are in range. `rank` has one number for each

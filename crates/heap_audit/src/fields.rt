@@ -1,12 +1,12 @@
 //! How many strong fields hold each slot.
 ghost use Rattle.std.specs.Prelude.{◌≡◌, ◌<◌, ◌≤◌, ◌+◌, ◌^◌, length, All, IfOk, slice_index, sum_by};
 ghost use Rattle.heap_audit.specs.Heaps.{HasFieldsWithin, IsInRange, fields_holding};
-ghost use Rattle.plain_state.specs.Limits.{most_slots};
-ghost use Rattle.plain_state.specs.declared.slot.SlotId.{SlotId};
+ghost use Rattle.deleter.specs.plain_state.Limits.{most_slots};
+ghost use Rattle.deleter.specs.plain_state.declared.slot.SlotId.{SlotId};
 ghost use Rattle.heap_audit.specs.Tables.{CountsWord, CountsFields, AreFieldCounts};
 
+use deleter::{Heap, SlotImage};
 use out_of_memory::OutOfMemory;
-use plain_state::{Heap, SlotImage};
 use std::alloc::Global;
 
 /// How many strong fields hold each slot. One look at each slot.

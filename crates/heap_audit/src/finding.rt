@@ -1,5 +1,5 @@
 //! What an audit finds.
-use plain_state::SlotId;
+use deleter::SlotId;
 
 /// What an audit finds.
 #[derive(Debug, Drop)]

@@ -1,7 +1,7 @@
 //! What follows from the rule of the walk, whatever finds it.
 ghost use Rattle.std.specs.Prelude.{◌≡◌, ℕ, List};
-ghost use Rattle.plain_state.specs.declared.slot.SlotId.{SlotId};
-ghost use Rattle.plain_state.specs.declared.image.Heap.{Heap};
+ghost use Rattle.deleter.specs.plain_state.declared.slot.SlotId.{SlotId};
+ghost use Rattle.deleter.specs.plain_state.declared.image.Heap.{Heap};
 ghost use Rattle.heap_audit.specs.Walks.{HasDistinctRanks, IsFound, IsWalk};
 
 /// What the search finds goes round a cycle of strong fields, so `check_walk` is true of it.

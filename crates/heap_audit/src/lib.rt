@@ -22,8 +22,6 @@
 #![tactic(auto)]
 
 mod audits;
-#[cfg(test)]
-mod checked;
 mod fields;
 mod finding;
 mod laws;
@@ -33,13 +31,12 @@ mod ranks;
 mod reach;
 mod search;
 mod summing;
-#[cfg(test)]
-mod tests;
 mod trails;
 mod walks;
 mod word;
 
 pub use audits::audit;
+pub use deleter::Deleter;
 pub use finding::Audit;
 pub use laws::{found_is_walk, one_walk_is_found};
 pub use obeying::lawful;

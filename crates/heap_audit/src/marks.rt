@@ -2,8 +2,8 @@
 ghost use Rattle.std.specs.Prelude.{◌≡◌, ◌<◌, [], length, replicate, false, IfOk, OnOk};
 ghost use Rattle.heap_audit.specs.Marking.{Adds};
 
+use deleter::SlotId;
 use out_of_memory::OutOfMemory;
-use plain_state::SlotId;
 use std::alloc::Global;
 
 /// Which slots are marked, and these slots in the order in which they were.

@@ -1,7 +1,7 @@
 //! Whether a heap is lawful, and each slot that it names is there.
 ghost use Rattle.std.specs.Prelude.{◌≡◌, ◌+◌, ◌^◌, ◌<◌, ◌≤◌, ◌↔◌, length, count_by, sum_by, All, IsTrue, slice_index};
-ghost use Rattle.plain_state.specs.Lists.{Entry, entry_times, same_kind};
-ghost use Rattle.plain_state.specs.declared.slot.Kind.TheVariants.{Strong};
+ghost use Rattle.deleter.specs.plain_state.Lists.{Entry, entry_times, same_kind};
+ghost use Rattle.deleter.specs.plain_state.declared.slot.Kind.TheVariants.{Strong};
 ghost use Rattle.heap_audit.specs.Heaps.{
   IsInRange,
   IsLawful,
@@ -14,7 +14,7 @@ ghost use Rattle.heap_audit.specs.Heaps.{
   slot,
 };
 
-use plain_state::{Heap, Kind, SlotId, SlotImage, ZERO};
+use deleter::{Heap, Kind, SlotId, SlotImage, ZERO};
 
 /// Whether a heap is lawful, and each slot that its words and its deferred entries name is there: the first two parts
 /// of what an audit asks for.

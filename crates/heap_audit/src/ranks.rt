@@ -2,7 +2,7 @@
 ghost use Rattle.std.specs.Prelude.{◌≡◌, ◌<◌, length, IfSome};
 ghost use Rattle.heap_audit.specs.Tables.{lower_of};
 
-use plain_state::SlotId;
+use deleter::SlotId;
 
 /// `best`, unless `slot` is of lower rank or there is no best yet.
 pub fn lower(rank: &[u64], best: Option<SlotId>, slot: SlotId) -> SlotId

@@ -1,14 +1,14 @@
 //! Which slots are reached.
 ghost use Rattle.std.specs.Prelude.{◌≤◌, ◌^◌, length, IfOk, OnOk};
-ghost use Rattle.plain_state.specs.Limits.{most_slots};
+ghost use Rattle.deleter.specs.plain_state.Limits.{most_slots};
 ghost use Rattle.heap_audit.specs.Heaps.{IsInRange, IsLawful};
 ghost use Rattle.heap_audit.specs.Marking.{Follows, IsSpread};
 ghost use Rattle.heap_audit.specs.Tables.{AreReached};
 
 use crate::fields::field_counts;
 use crate::marks::Marks;
+use deleter::{Heap, SlotId};
 use out_of_memory::OutOfMemory;
-use plain_state::{Heap, SlotId};
 use std::alloc::Global;
 
 /// Whether each slot is reached. A list of what is marked stands in place of a deep stack. Two passes over the slots,

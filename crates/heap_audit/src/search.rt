@@ -1,7 +1,7 @@
 //! The walk that is found among the unreached slots.
 ghost use Rattle.std.specs.Prelude.{◌≡◌, ◌≤◌, ◌<◌, ◌↔◌, ◌^◌, length, IfOk, IfSome, IsTrue, None};
-ghost use Rattle.plain_state.specs.Limits.{most_slots};
-ghost use Rattle.plain_state.specs.declared.slot.SlotId.{SlotId};
+ghost use Rattle.deleter.specs.plain_state.Limits.{most_slots};
+ghost use Rattle.deleter.specs.plain_state.declared.slot.SlotId.{SlotId};
 ghost use Rattle.heap_audit.specs.Heaps.{slot, IsInRange, IsLawful};
 ghost use Rattle.heap_audit.specs.Reached.{IsUnreached, HowMany};
 ghost use Rattle.heap_audit.specs.Walks.{IsLeast, IsFound};
@@ -10,8 +10,8 @@ ghost use Rattle.heap_audit.specs.Tables.{AreReached, AreHolders, IsLeastIfAny, 
 use crate::ranks::lower;
 use crate::trails::{search, turn_round};
 use crate::word::is_live;
+use deleter::{Heap, SlotId};
 use out_of_memory::OutOfMemory;
-use plain_state::{Heap, SlotId};
 use std::alloc::Global;
 
 /// Whether a slot is Live and unreached.

@@ -1,6 +1,6 @@
 //! What the Live slots add up to, in one pass.
 ghost use Rattle.std.specs.Prelude.{◌≡◌, ◌<◌, ◌≤◌, ◌^◌, length};
-ghost use Rattle.plain_state.specs.Limits.{most_slots};
+ghost use Rattle.deleter.specs.plain_state.Limits.{most_slots};
 ghost use Rattle.deleter.specs.Weighing.{Weighs};
 ghost use Rattle.heap_audit.specs.Heaps.{slot, HasFittingPayloads, live_slots, live_bytes};
 ghost use Rattle.heap_audit.specs.Reached.{IsUnreached, HowMany};
@@ -9,8 +9,7 @@ ghost use Rattle.heap_audit.specs.Tables.{AreReached, IsLeastIfAny};
 use crate::ranks::lower;
 use crate::search::is_unreached;
 use crate::word::is_live;
-use deleter::Deleter;
-use plain_state::{Heap, PayloadKind, SlotId};
+use deleter::{Deleter, Heap, PayloadKind, SlotId};
 
 /// What the Live slots of a heap add up to.
 #[derive(Clone, Copy, Debug, Drop)]

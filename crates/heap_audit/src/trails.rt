@@ -1,13 +1,13 @@
 //! Where a search comes to, and the walk that lies at its end.
 ghost use Rattle.std.specs.Prelude.{◌≡◌, ◌≤◌, ◌<◌, length, All, Contains, IfOk, IsSome, slice_index_or};
-ghost use Rattle.plain_state.specs.declared.slot.SlotId.{SlotId};
+ghost use Rattle.deleter.specs.plain_state.declared.slot.SlotId.{SlotId};
 ghost use Rattle.heap_audit.specs.Heaps.{slot};
 ghost use Rattle.heap_audit.specs.Walks.{rank_of};
 ghost use Rattle.heap_audit.specs.Tables.{LeadsBy, Searched, TurnsRound, holder_at};
 
 use crate::marks::Marks;
+use deleter::SlotId;
 use out_of_memory::OutOfMemory;
-use plain_state::SlotId;
 use std::alloc::Global;
 
 /// The slots that a search comes to, each once, and the one that it then comes to again.

@@ -5,7 +5,7 @@ ghost use Rattle.heap_audit.specs.Reached.{HasField};
 ghost use Rattle.heap_audit.specs.Walks.{IsWalk};
 
 use crate::word::is_live;
-use plain_state::{Heap, SlotId, SlotImage};
+use deleter::{Heap, SlotId, SlotImage};
 
 /// True exactly where the walk isn't empty, all its slots are Live, and each has a strong field that holds the next,
 /// the last one the first. One look at a slot for each slot of the walk.

@@ -1,7 +1,7 @@
 //! The strong word of a slot.
 ghost use Rattle.std.specs.Prelude.{◌<◌, ◌^◌, ◌↔◌, IsTrue};
 
-use counter_word::value;
+use deleter::value;
 
 /// Whether the word has no zero flag: then it is its own value.
 pub(crate) fn is_live(word: u64) -> bool

@@ -1,19 +1,19 @@
 -- A seat that attaches before its lane runs.
 use Rattle.std.proofs.Common.{◌≡◌, [], ap, ◌∙◌, arith}
-use Rattle.core_events.specs.declared.view.CoreView.{CoreView}
-use Rattle.core_events.specs.Views.{note_of}
-use Rattle.core_events.specs.Steps.{HasRoom}
-use Rattle.acquire_retire.specs.Domains.{DomainState}
-use Rattle.acquire_retire.specs.Seats.{SeatState}
-use Rattle.control_word.specs.Resting.{IsAtRest}
-use Rattle.directory_law.specs.declared.view.View.{View as DirectoryView}
-use Rattle.text_reading.specs.Reading.{HasTwoFree}
-use Rattle.linked_queue.specs.Attaching.{attached_in}
-use Rattle.linked_queue.specs.Leaving.{Leaves}
-use Rattle.linked_queue.specs.Waits.{AttachesAtLast}
-use Rattle.part_calls.specs.Parts.{StaysBeside}
-use Rattle.words_law.specs.Views.{View}
-use Rattle.words_protocol.specs.declared.law.WordsLaw.{WordsLaw}
+use Rattle.lane_files.specs.core_events.declared.view.CoreView.{CoreView}
+use Rattle.lane_files.specs.core_events.Views.{note_of}
+use Rattle.lane_files.specs.core_events.Steps.{HasRoom}
+use Rattle.lane_files.specs.acquire_retire.Domains.{DomainState}
+use Rattle.lane_files.specs.acquire_retire.Seats.{SeatState}
+use Rattle.lane_files.specs.control_word.Resting.{IsAtRest}
+use Rattle.lane_files.specs.directory_law.declared.view.View.{View as DirectoryView}
+use Rattle.lane_files.specs.text_reading.Reading.{HasTwoFree}
+use Rattle.lane_files.specs.linked_queue.Attaching.{attached_in}
+use Rattle.lane_files.specs.linked_queue.Leaving.{Leaves}
+use Rattle.lane_files.specs.linked_queue.Waits.{AttachesAtLast}
+use Rattle.lane_files.specs.part_calls.Parts.{StaysBeside}
+use Rattle.lane_files.specs.words_law.Views.{View}
+use Rattle.lane_files.specs.words_protocol.declared.law.WordsLaw.{WordsLaw}
 use Rattle.lane_files.specs.declared.shared.Shared.{Shared}
 use Rattle.lane_files.specs.Ready.{IsReady}
 use Rattle.lane_files.specs.Whys.{of_queue, queue_of}

@@ -2,42 +2,42 @@
 use Rattle.std.proofs.Common.{◌≡◌, ⊎_elim, ℕ, ◌+◌, ◌<◌, ◌≤◌, List, [], refl, sym, ap, subst, ◌∙◌, arith}
 use Rattle.std.specs.Prelude.{slice_index_or}
 use Rattle.std.proofs.lemmas.List.FromFn.{get_or-map-range_with_len}
-use Rattle.plain_state.specs.declared.slot.SlotId.{SlotId}
-use Rattle.plain_state.specs.Lists.{times}
-use Rattle.core_events.specs.declared.shape.Quota.{Quota}
-use Rattle.core_events.specs.declared.shape.Shape.{Shape}
-use Rattle.core_events.specs.declared.view.CoreView.{CoreView}
-use Rattle.core_events.specs.Runs.{IsShape}
-use Rattle.core_events.specs.Steps.{HasMake, HasRoom}
-use Rattle.core_events.specs.Views.{Terms}
-use Rattle.core_law.proofs.Each.{get_each, length_each}
-use Rattle.domain_rule.specs.Views.{quota_at}
-use Rattle.acquire_retire.specs.Domains.{DomainState}
-use Rattle.acquire_retire.specs.Openings.{begun_seat}
-use Rattle.acquire_retire.specs.Seats.{SeatState}
-use Rattle.control_word.proofs.Beginning.{all_at_rest}
-use Rattle.control_word.specs.Resting.{IsAtRest}
-use Rattle.claim_law.specs.Claims.{makes_given}
-use Rattle.slot_store.specs.Calls.{HasNoMake}
-use Rattle.slot_store.specs.declared.making.MakeError.{MakeError}
-use Rattle.slot_store.specs.declared.making.MakeError.TheVariants as unmade
-use Rattle.slot_store.proofs.Exhausting.{more_makes}
-use Rattle.part_calls.specs.Parts.{StaysBeside}
-use Rattle.queue_law.specs.declared.view.Form.{Form}
-use Rattle.queue_law.specs.declared.view.Form.TheVariants.{Linked, Double}
-use Rattle.queue_law.specs.Views.{view_of}
-use Rattle.directory_law.specs.declared.view.GivenTo.{GivenTo}
-use Rattle.directory_law.specs.Cells.{seat_interns, ticket_interns}
-use Rattle.directory_law.specs.Views as directory
-use Rattle.text_reading.specs.Reading.{HasTwoFree}
-use Rattle.linked_queue.specs.Leaving.{Leaves}
-use Rattle.linked_queue.specs.Nodes.{IsWhyUnlaid, laid_in}
-use Rattle.linked_queue.specs.Queues.{CanLay, IsAttached, deeds_in}
-use Rattle.hand_queues.specs.Queues.{IsAnyOf, queue_in}
-use Rattle.words_law.specs.Owned.{first_view}
-use Rattle.words_law.specs.Views.{View}
-use Rattle.words_protocol.specs.Sides.{area_of, ends_of}
-use Rattle.words_protocol.specs.declared.law.WordsLaw.{WordsLaw}
+use Rattle.lane_files.specs.plain_state.declared.slot.SlotId.{SlotId}
+use Rattle.lane_files.specs.plain_state.Lists.{times}
+use Rattle.lane_files.specs.core_events.declared.shape.Quota.{Quota}
+use Rattle.lane_files.specs.core_events.declared.shape.Shape.{Shape}
+use Rattle.lane_files.specs.core_events.declared.view.CoreView.{CoreView}
+use Rattle.lane_files.specs.core_events.Runs.{IsShape}
+use Rattle.lane_files.specs.core_events.Steps.{HasMake, HasRoom}
+use Rattle.lane_files.specs.core_events.Views.{Terms}
+use Rattle.lane_files.proofs.Below.core_law.Each.{get_each, length_each}
+use Rattle.lane_files.specs.domain_rule.Views.{quota_at}
+use Rattle.lane_files.specs.acquire_retire.Domains.{DomainState}
+use Rattle.lane_files.specs.acquire_retire.Openings.{begun_seat}
+use Rattle.lane_files.specs.acquire_retire.Seats.{SeatState}
+use Rattle.lane_files.proofs.Below.control_word.Beginning.{all_at_rest}
+use Rattle.lane_files.specs.control_word.Resting.{IsAtRest}
+use Rattle.lane_files.specs.claim_law.Claims.{makes_given}
+use Rattle.lane_files.specs.slot_store.Calls.{HasNoMake}
+use Rattle.lane_files.specs.slot_store.declared.making.MakeError.{MakeError}
+use Rattle.lane_files.specs.slot_store.declared.making.MakeError.TheVariants as unmade
+use Rattle.lane_files.proofs.Below.slot_store.Exhausting.{more_makes}
+use Rattle.lane_files.specs.part_calls.Parts.{StaysBeside}
+use Rattle.lane_files.specs.queue_law.declared.view.Form.{Form}
+use Rattle.lane_files.specs.queue_law.declared.view.Form.TheVariants.{Linked, Double}
+use Rattle.lane_files.specs.queue_law.Views.{view_of}
+use Rattle.lane_files.specs.directory_law.declared.view.GivenTo.{GivenTo}
+use Rattle.lane_files.specs.directory_law.Cells.{seat_interns, ticket_interns}
+use Rattle.lane_files.specs.directory_law.Views as directory
+use Rattle.lane_files.specs.text_reading.Reading.{HasTwoFree}
+use Rattle.lane_files.specs.linked_queue.Leaving.{Leaves}
+use Rattle.lane_files.specs.linked_queue.Nodes.{IsWhyUnlaid, laid_in}
+use Rattle.lane_files.specs.linked_queue.Queues.{CanLay, IsAttached, deeds_in}
+use Rattle.lane_files.specs.hand_queues.Queues.{IsAnyOf, queue_in}
+use Rattle.lane_files.specs.words_law.Owned.{first_view}
+use Rattle.lane_files.specs.words_law.Views.{View}
+use Rattle.lane_files.specs.words_protocol.Sides.{area_of, ends_of}
+use Rattle.lane_files.specs.words_protocol.declared.law.WordsLaw.{WordsLaw}
 use Rattle.lane_files.specs.declared.shared.Shared.{Shared}
 use Rattle.lane_files.specs.Ready.{IsReady}
 use Rattle.lane_files.specs.Whys.{of_queue, queue_of}

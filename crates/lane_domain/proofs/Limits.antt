@@ -5,8 +5,8 @@ use Rattle.std.proofs.lemmas.List.{get_or_default, length-map}
 use Rattle.std.proofs.lemmas.List.Elements.{All-get_or, All-map}
 use Rattle.std.proofs.lemmas.List.Sums.{sum_by-le, sum_by-take-le, sum_by_more}
 use Rattle.std.proofs.lemmas.Nat.{mul-le}
-use Rattle.cdrc_text.specs.Fold.{File}
-use Rattle.cdrc_text.specs.Text.{slots_of_word}
+use Rattle.lane_files.specs.cdrc_text.Fold.{File}
+use Rattle.lane_files.specs.cdrc_text.Text.{slots_of_word}
 use Rattle.lane_files.specs.declared.file.FileText.{FileText}
 use Rattle.lane_files.specs.declared.work.Work.{Work}
 use Rattle.lane_files.specs.Files.{HasPieces, pieces_in}

@@ -4,8 +4,8 @@ use Rattle.std.specs.Prelude.{drop, length, slice_index_or}
 use Rattle.std.proofs.Math.Seq.{get_or-append_seam}
 use Rattle.std.proofs.lemmas.Bool.{cases_lt}
 use Rattle.std.proofs.lemmas.List.{get_or-drop, get_or_append_left, get_or_default, length-append}
-use Rattle.acquire_retire.specs.Seats.{SeatState}
-use Rattle.words_law.specs.Views.{View}
+use Rattle.lane_files.specs.acquire_retire.Seats.{SeatState}
+use Rattle.lane_files.specs.words_law.Views.{View}
 use Rattle.lane_domain.specs.declared.jobs.Job.{Job}
 use Rattle.lane_domain.specs.Jobs.{AreJobs}
 

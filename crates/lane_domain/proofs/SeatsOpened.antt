@@ -1,13 +1,13 @@
 -- The seats of lanes that were just opened can begin.
 use Rattle.std.proofs.Common.{ℕ, ◌+◌, ◌<◌, ◌≤◌, refl, sym, subst, arith}
 use Rattle.std.specs.Prelude.{All}
-use Rattle.plain_state.specs.Limits.{most_slots}
-use Rattle.core_law.proofs.Each.{get_each, length_each}
-use Rattle.acquire_retire.specs.Domains.{DomainState}
-use Rattle.acquire_retire.specs.Seats.{SeatState}
-use Rattle.queue_law.specs.declared.view.Form.{Form}
-use Rattle.words_law.specs.Views.{View}
-use Rattle.words_protocol.specs.declared.law.WordsLaw.{WordsLaw}
+use Rattle.lane_files.specs.plain_state.Limits.{most_slots}
+use Rattle.lane_files.proofs.Below.core_law.Each.{get_each, length_each}
+use Rattle.lane_files.specs.acquire_retire.Domains.{DomainState}
+use Rattle.lane_files.specs.acquire_retire.Seats.{SeatState}
+use Rattle.lane_files.specs.queue_law.declared.view.Form.{Form}
+use Rattle.lane_files.specs.words_law.Views.{View}
+use Rattle.lane_files.specs.words_protocol.declared.law.WordsLaw.{WordsLaw}
 use Rattle.lane_files.specs.declared.shared.Shared.{Shared}
 use Rattle.lane_files.specs.Ready.{IsReady}
 use Rattle.lane_files.specs.declared.work.Work.{Work}

@@ -5,20 +5,20 @@ use Rattle.std.proofs.lemmas.List.{length-replicate}
 use Rattle.std.proofs.lemmas.List.Elements.{All-cons, All-replicate}
 use Rattle.std.proofs.lemmas.List.Folds.{sum_by-replicate}
 use Rattle.std.proofs.lemmas.List.Sums.{sum_by-cons}
-use Rattle.plain_state.specs.Limits.{most_slots}
-use Rattle.core_events.specs.declared.shape.Quota.{Quota}
-use Rattle.core_events.specs.declared.shape.Shape.{Shape}
-use Rattle.core_events.specs.declared.shape.ShapeField.{ShapeField}
-use Rattle.core_events.specs.declared.shape.ShapeField.TheVariants.{Seats, Slots, Cells, WeakCells, Batch, Quotas}
-use Rattle.core_events.specs.Runs.{AreTerms, IsQuota, IsShape}
-use Rattle.core_functions.specs.Fields.{IsFirstBad, IsInRange}
-use Rattle.acquire_retire.specs.Domains.{DomainState}
-use Rattle.words_protocol.specs.declared.law.WordsLaw.{WordsLaw}
-use Rattle.claim_law.specs.Claims.{makes_given}
-use Rattle.cdrc_text.specs.Fold.{File}
+use Rattle.lane_files.specs.plain_state.Limits.{most_slots}
+use Rattle.lane_files.specs.core_events.declared.shape.Quota.{Quota}
+use Rattle.lane_files.specs.core_events.declared.shape.Shape.{Shape}
+use Rattle.lane_files.specs.core_events.declared.shape.ShapeField.{ShapeField}
+use Rattle.lane_files.specs.core_events.declared.shape.ShapeField.TheVariants.{Seats, Slots, Cells, WeakCells, Batch, Quotas}
+use Rattle.lane_files.specs.core_events.Runs.{AreTerms, IsQuota, IsShape}
+use Rattle.lane_files.specs.core_functions.Fields.{IsFirstBad, IsInRange}
+use Rattle.lane_files.specs.acquire_retire.Domains.{DomainState}
+use Rattle.lane_files.specs.words_protocol.declared.law.WordsLaw.{WordsLaw}
+use Rattle.lane_files.specs.claim_law.Claims.{makes_given}
+use Rattle.lane_files.specs.cdrc_text.Fold.{File}
 use Rattle.lane_files.specs.declared.work.Work.{Work}
 use Rattle.lane_files.specs.Work.{all_tickets}
-use Rattle.queue_law.specs.declared.view.Form.{Form}
+use Rattle.lane_files.specs.queue_law.declared.view.Form.{Form}
 use Rattle.lane_domain.specs.Opened.{IsDomainFor, cells_for, lane_quota, root_quota, shape_for, terms_for}
 use Rattle.lane_domain.specs.Sizes.{IsWithinLimits, all_parts, all_pieces, by_ticket, interns_of, makes_of, slots_of_words, texts_in}
 use Rattle.lane_domain.proofs.Sums.{is_sum, of_rounds, sum_of_both}

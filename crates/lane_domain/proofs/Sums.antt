@@ -7,7 +7,7 @@ use Rattle.std.proofs.lemmas.List.FromFn.{map-range_with_len_more, sum_by-map-ra
 use Rattle.std.proofs.lemmas.List.Sums.{sum_by-cons, sum_by_more}
 use Rattle.std.proofs.lemmas.Nat.{mod-mul-add}
 use Rattle.std.proofs.Math.Nat.{suc-mul}
-use Rattle.cdrc_text.specs.Fold.{File}
+use Rattle.lane_files.specs.cdrc_text.Fold.{File}
 use Rattle.lane_files.specs.declared.work.Work.{Work}
 use Rattle.lane_files.specs.Work.{files_in, words_of}
 use Rattle.lane_domain.specs.Sizes.{texts_in}

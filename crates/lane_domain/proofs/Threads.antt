@@ -1,10 +1,10 @@
 -- What the threads answer, in the order of the seats.
 use Rattle.std.proofs.Common.{ℕ, ◌<◌, List, sym, subst, ◌∙◌, arith}
 use Rattle.std.specs.Prelude.{All, length, slice_index_or}
-use Rattle.acquire_retire.specs.Domains.{DomainState}
-use Rattle.acquire_retire.specs.Seats.{SeatState}
-use Rattle.words_law.specs.Views.{View}
-use Rattle.words_protocol.specs.declared.law.WordsLaw.{WordsLaw}
+use Rattle.lane_files.specs.acquire_retire.Domains.{DomainState}
+use Rattle.lane_files.specs.acquire_retire.Seats.{SeatState}
+use Rattle.lane_files.specs.words_law.Views.{View}
+use Rattle.lane_files.specs.words_protocol.declared.law.WordsLaw.{WordsLaw}
 use Rattle.lane_files.specs.declared.shared.Shared.{Shared}
 use Rattle.lane_files.specs.declared.work.Work.{Work}
 use Rattle.lane_domain.specs.declared.ending.LaneEnd.{LaneEnd}

@@ -1,21 +1,21 @@
 -- A lane's seat before it begins, and once it takes part in the queue.
 use Rattle.std.specs.Prelude.{ℕ, ◌≡◌, true, List, []}
-use Rattle.cdrc_text.specs.Tally.{count_of, total_of}
-use Rattle.plain_state.specs.declared.slot.SlotId.{SlotId}
-use Rattle.plain_state.specs.Lists.{times}
-use Rattle.core_events.specs.Steps.{HasRoom}
-use Rattle.core_events.specs.Views.{no_notes}
-use Rattle.acquire_retire.specs.Domains.{DomainState}
-use Rattle.acquire_retire.specs.Seats.{SeatState}
-use Rattle.control_word.specs.Resting.{IsAtRest}
-use Rattle.directory_law.specs.Views as directory
-use Rattle.directory_calls.specs.Directories.{IsOver}
-use Rattle.linked_queue.specs.Attaching.{attached_in}
-use Rattle.linked_queue.specs.Leaving.{Leaves}
-use Rattle.hand_queues.specs.Queues.{IsAnyOf}
-use Rattle.linked_queue.specs.Waits.{AttachesAtLast}
-use Rattle.words_law.specs.Views.{View}
-use Rattle.words_protocol.specs.declared.law.WordsLaw.{WordsLaw}
+use Rattle.lane_files.specs.cdrc_text.Tally.{count_of, total_of}
+use Rattle.lane_files.specs.plain_state.declared.slot.SlotId.{SlotId}
+use Rattle.lane_files.specs.plain_state.Lists.{times}
+use Rattle.lane_files.specs.core_events.Steps.{HasRoom}
+use Rattle.lane_files.specs.core_events.Views.{no_notes}
+use Rattle.lane_files.specs.acquire_retire.Domains.{DomainState}
+use Rattle.lane_files.specs.acquire_retire.Seats.{SeatState}
+use Rattle.lane_files.specs.control_word.Resting.{IsAtRest}
+use Rattle.lane_files.specs.directory_law.Views as directory
+use Rattle.lane_files.specs.directory_calls.Directories.{IsOver}
+use Rattle.lane_files.specs.linked_queue.Attaching.{attached_in}
+use Rattle.lane_files.specs.linked_queue.Leaving.{Leaves}
+use Rattle.lane_files.specs.hand_queues.Queues.{IsAnyOf}
+use Rattle.lane_files.specs.linked_queue.Waits.{AttachesAtLast}
+use Rattle.lane_files.specs.words_law.Views.{View}
+use Rattle.lane_files.specs.words_protocol.declared.law.WordsLaw.{WordsLaw}
 use Rattle.lane_files.specs.declared.shared.Shared.{Shared}
 use Rattle.lane_files.specs.Whys.{of_queue, queue_of}
 use Rattle.lane_files.specs.declared.lane.Lane.{Lane}

@@ -1,12 +1,12 @@
 -- What each thread is given.
 use Rattle.std.specs.Prelude.{ℕ, ◌≡◌, ◌<◌, List, length, slice_index_or}
-use Rattle.acquire_retire.specs.Domains.{DomainState}
-use Rattle.acquire_retire.specs.Seats.{SeatState}
-use Rattle.protocol_pairs.specs.Shares.{FitsItsPart, weight_in_part}
-use Rattle.queue_protocol.specs.Nodes.{IsNodePayload, node_weight}
-use Rattle.directory_law.specs.Bytes.{IsPiece, piece_weight}
-use Rattle.words_law.specs.Views.{View}
-use Rattle.words_protocol.specs.declared.law.WordsLaw.{WordsLaw}
+use Rattle.lane_files.specs.acquire_retire.Domains.{DomainState}
+use Rattle.lane_files.specs.acquire_retire.Seats.{SeatState}
+use Rattle.lane_files.specs.protocol_pairs.Shares.{FitsItsPart, weight_in_part}
+use Rattle.lane_files.specs.queue_protocol.Nodes.{IsNodePayload, node_weight}
+use Rattle.lane_files.specs.directory_law.Bytes.{IsPiece, piece_weight}
+use Rattle.lane_files.specs.words_law.Views.{View}
+use Rattle.lane_files.specs.words_protocol.declared.law.WordsLaw.{WordsLaw}
 use Rattle.lane_files.specs.declared.shared.Shared.{Shared}
 use Rattle.lane_files.specs.declared.work.Work.{Work}
 use Rattle.lane_domain.specs.declared.ending.LaneEnd.{LaneEnd}

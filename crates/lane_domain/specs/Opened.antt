@@ -1,29 +1,29 @@
 -- A domain that was opened for some work, and its seats.
 use Rattle.std.specs.Prelude.{ℕ, ◌≡◌, ◌<◌, ◌≤◌, ◌+◌, ◌*◌, ◌^◌, List, [], ◌∷◌, replicate}
-use Rattle.plain_state.specs.Limits.{most_slots}
-use Rattle.plain_state.specs.declared.slot.SlotId.{SlotId}
-use Rattle.plain_state.specs.Lists.{times}
-use Rattle.core_events.specs.declared.shape.Quota.{Quota}
-use Rattle.core_events.specs.declared.shape.Shape.{Shape}
-use Rattle.core_events.specs.Views.{Terms, no_notes}
-use Rattle.core_events.specs.Words.{each_from}
-use Rattle.acquire_retire.specs.Domains.{DomainState}
-use Rattle.acquire_retire.specs.Openings.{begun_seat}
-use Rattle.acquire_retire.specs.Seats.{SeatState}
-use Rattle.queue_law.specs.declared.view.Form.{Form}
-use Rattle.queue_law.specs.Views.{view_of}
-use Rattle.queue_protocol.specs.declared.law.QueueLaw.{QueueLaw}
-use Rattle.directory_law.specs.declared.view.GivenTo.TheVariants.{Tickets}
-use Rattle.directory_law.specs.Views as directory
-use Rattle.directory_protocol.specs.declared.law.DirectoryLaw.{DirectoryLaw}
-use Rattle.linked_queue.specs.Nodes.{laid_in}
-use Rattle.linked_queue.specs.Queues.{deeds_in}
-use Rattle.words_law.specs.Owned.{first_view}
-use Rattle.words_law.specs.Views.{View}
-use Rattle.words_protocol.specs.Sides.{area_of, ends_of}
-use Rattle.words_protocol.specs.declared.law.WordsLaw.{WordsLaw}
+use Rattle.lane_files.specs.plain_state.Limits.{most_slots}
+use Rattle.lane_files.specs.plain_state.declared.slot.SlotId.{SlotId}
+use Rattle.lane_files.specs.plain_state.Lists.{times}
+use Rattle.lane_files.specs.core_events.declared.shape.Quota.{Quota}
+use Rattle.lane_files.specs.core_events.declared.shape.Shape.{Shape}
+use Rattle.lane_files.specs.core_events.Views.{Terms, no_notes}
+use Rattle.lane_files.specs.core_events.Words.{each_from}
+use Rattle.lane_files.specs.acquire_retire.Domains.{DomainState}
+use Rattle.lane_files.specs.acquire_retire.Openings.{begun_seat}
+use Rattle.lane_files.specs.acquire_retire.Seats.{SeatState}
+use Rattle.lane_files.specs.queue_law.declared.view.Form.{Form}
+use Rattle.lane_files.specs.queue_law.Views.{view_of}
+use Rattle.lane_files.specs.queue_protocol.declared.law.QueueLaw.{QueueLaw}
+use Rattle.lane_files.specs.directory_law.declared.view.GivenTo.TheVariants.{Tickets}
+use Rattle.lane_files.specs.directory_law.Views as directory
+use Rattle.lane_files.specs.directory_protocol.declared.law.DirectoryLaw.{DirectoryLaw}
+use Rattle.lane_files.specs.linked_queue.Nodes.{laid_in}
+use Rattle.lane_files.specs.linked_queue.Queues.{deeds_in}
+use Rattle.lane_files.specs.words_law.Owned.{first_view}
+use Rattle.lane_files.specs.words_law.Views.{View}
+use Rattle.lane_files.specs.words_protocol.Sides.{area_of, ends_of}
+use Rattle.lane_files.specs.words_protocol.declared.law.WordsLaw.{WordsLaw}
 use Rattle.lane_files.specs.declared.work.Work.{Work}
-use Rattle.slot_store.specs.Searching.{Misses}
+use Rattle.lane_files.specs.slot_store.Searching.{Misses}
 use Rattle.lane_files.specs.Whys.{of_queue, queue_of}
 use Rattle.lane_domain.specs.declared.opened.OpenLanesError.{OpenLanesError}
 use Rattle.lane_domain.specs.declared.opened.OpenLanesError.TheVariants as refused

@@ -1,9 +1,9 @@
 -- How much of a domain some work takes.
 use Rattle.std.specs.Prelude.{ℕ, ◌+◌, ◌*◌, ◌≤◌, List, length, map, sum_by}
 use Rattle.std.specs.List.{range_with_len}
-use Rattle.plain_state.specs.Limits.{most_slots}
-use Rattle.cdrc_text.specs.Fold.{File}
-use Rattle.cdrc_text.specs.Text.{slots_of_word}
+use Rattle.lane_files.specs.plain_state.Limits.{most_slots}
+use Rattle.lane_files.specs.cdrc_text.Fold.{File}
+use Rattle.lane_files.specs.cdrc_text.Text.{slots_of_word}
 use Rattle.lane_files.specs.declared.file.FileText.{FileText}
 use Rattle.lane_files.specs.declared.work.Work.{Work}
 use Rattle.lane_files.specs.Files.{pieces_in}

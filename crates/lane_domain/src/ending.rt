@@ -1,7 +1,5 @@
 //! How a lane ends.
-use acquire_retire::Seat;
-use lane_files::{Lane, LaneStop};
-use words_protocol::WordsLaw;
+use lane_files::{Lane, LaneStop, Seat, WordsLaw};
 
 /// A lane that has ended, with its seat.
 #[derive(Drop)]

@@ -2,10 +2,8 @@
 ghost use Rattle.std.specs.Prelude.{◌^◌, ◌<◌, IfOk, length};
 ghost use Rattle.lane_domain.specs.Jobs.{AreJobs};
 
-use acquire_retire::Seat;
-use out_of_memory::OutOfMemory;
+use lane_files::{OutOfMemory, Seat, WordsLaw};
 use std::alloc::Global;
-use words_protocol::WordsLaw;
 
 /// A lane's number and its seat.
 #[derive(Drop)]

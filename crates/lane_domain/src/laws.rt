@@ -1,29 +1,26 @@
 //! What is so of lanes in a domain that was opened for their work: their seats can begin, and which makes are refused.
 ghost use Rattle.std.specs.Prelude.{ℕ, ◌≤◌, All, ◌≡◌, ◌≢◌, ◌<◌, ◌+◌, ◌*◌, Some};
-ghost use Rattle.plain_state.specs.Limits.{most_slots};
-ghost use Rattle.acquire_retire.specs.Domains.{DomainState};
-ghost use Rattle.acquire_retire.specs.Seats.{SeatState};
-ghost use Rattle.queue_law.specs.declared.view.Form.{Form};
-ghost use Rattle.words_law.specs.Views.{View};
-ghost use Rattle.words_protocol.specs.declared.law.WordsLaw.{WordsLaw};
+ghost use Rattle.lane_files.specs.plain_state.Limits.{most_slots};
+ghost use Rattle.lane_files.specs.acquire_retire.Domains.{DomainState};
+ghost use Rattle.lane_files.specs.acquire_retire.Seats.{SeatState};
+ghost use Rattle.lane_files.specs.queue_law.declared.view.Form.{Form};
+ghost use Rattle.lane_files.specs.words_law.Views.{View};
+ghost use Rattle.lane_files.specs.words_protocol.declared.law.WordsLaw.{WordsLaw};
 ghost use Rattle.lane_files.specs.declared.shared.Shared.{Shared};
 ghost use Rattle.lane_files.specs.Ready.{IsReady};
 ghost use Rattle.lane_files.specs.declared.work.Work.{Work};
 ghost use Rattle.lane_domain.specs.Opened.{IsDomainFor, fresh_lanes, fresh_seat};
 ghost use Rattle.lane_domain.specs.Sizes.{IsWithinLimits, all_parts, all_pieces, most_lanes};
 ghost use Rattle.lane_domain.specs.Beginning.{CanBegin};
-ghost use Rattle.linked_queue.specs.Leaving.{Leaves};
-ghost use Rattle.slot_store.specs.declared.making.MakeError.TheVariants as unmade;
+ghost use Rattle.lane_files.specs.linked_queue.Leaving.{Leaves};
+ghost use Rattle.lane_files.specs.slot_store.declared.making.MakeError.TheVariants as unmade;
 ghost use Rattle.lane_files.specs.Whys.{of_queue};
 ghost use Rattle.lane_files.specs.declared.lane.Lane.{Lane};
 ghost use Rattle.lane_files.specs.declared.refusal.LaneStop.{LaneStop};
 ghost use Rattle.lane_files.specs.Lanes.{StopsLane};
 ghost use Rattle.lane_files.specs.Makes.{HasItsMakes, cause_of};
 
-use directory_protocol::RecordKind;
-use plain_state::PayloadKind;
-use protocol_pairs::PairKind;
-use queue_protocol::NodeKind;
+use lane_files::{NodeKind, PairKind, PayloadKind, RecordKind};
 
 /// The seats of the lanes as `open_lanes` answers them can begin, on what it answers with them.
 pub fn opened_seats_can_begin()

@@ -22,13 +22,14 @@ mod opened;
 mod opening;
 mod running;
 mod sizes;
-#[cfg(test)]
-mod tests;
-#[cfg(test)]
-mod tests_threads;
 mod tickets;
 
 pub use ending::LaneEnd;
+pub use lane_files::{
+    FileError, FileFault, FileText, Files, Gate, HandQueue, HonestFiles, HonestSink, HostFiles,
+    HostSink, Lane, LaneError, LaneStop, Meet, MemFiles, MemSink, NodeKind, Open, PieceError,
+    RecordKind, Shared, Sink, SinkFault, WordsLaw, Work, find, pairs_have_pieces, take_one,
+};
 pub use laws::{
     attached_seats_have_makes, full_domains_lack_slots, lanes_have_makes, opened_seats_can_begin,
 };

@@ -2,10 +2,7 @@
 ghost use Rattle.std.specs.Prelude.{◌≡◌};
 ghost use Rattle.lane_domain.specs.declared.opened.OpenLanesError.TheVariants as refused;
 
-use acquire_retire::{Domain, Seat};
-use lane_files::Shared;
-use out_of_memory::OutOfMemory as NoMemory;
-use words_protocol::WordsLaw;
+use lane_files::{Domain, OutOfMemory as NoMemory, Seat, Shared, WordsLaw};
 
 /// A domain whose queue is laid, with seat 0 and the seats of its lanes.
 #[derive(Drop)]

@@ -1,7 +1,7 @@
 //! How a domain is opened for lanes.
 ghost use Rattle.std.specs.Prelude.{◌≡◌, ◌≤◌, ◌<◌, ◌*◌, ◌∷◌, IfErr, IfOk, OnErr, OnOk, replicate};
-ghost use Rattle.plain_state.specs.Limits.{most_slots};
-ghost use Rattle.claim_law.specs.Claims.{makes_given};
+ghost use Rattle.lane_files.specs.plain_state.Limits.{most_slots};
+ghost use Rattle.lane_files.specs.claim_law.Claims.{makes_given};
 ghost use Rattle.lane_files.specs.Ready.{IsReady};
 ghost use Rattle.lane_files.specs.Lanes.{HasGrants};
 ghost use Rattle.lane_files.specs.Makes.{GrantsMakes};
@@ -12,19 +12,12 @@ ghost use Rattle.lane_domain.specs.Sizes.{IsWithinLimits, all_pieces, most_lanes
 use crate::opened::{OpenLanesError, Opened, Unlaid};
 use crate::sizes::count_pieces;
 use crate::tickets::{list_interns, list_makes};
-use acquire_retire::{Domain, OpenError, Quota, Seat, Shape, open_granted};
-use directory_calls::Directory;
-use directory_protocol::{DirectoryLaw, RecordKind};
-use hand_queues::AnyQueue;
-use lane_files::{Shared, Work};
-use out_of_memory::OutOfMemory;
-use plain_state::PayloadKind;
-use protocol_pairs::{Left, PairKind};
-use queue_law::Form;
-use queue_protocol::{NodeKind, QueueLaw};
-use slot_store::MakeError;
+use lane_files::{
+    AnyQueue, Directory, DirectoryLaw, Domain, Form, Left, MakeError, NodeKind, OpenError,
+    OutOfMemory, PairKind, PayloadKind, QueueLaw, Quota, RecordKind, Seat, Shape, Shared, WordsLaw,
+    Work, open_granted,
+};
 use std::alloc::Global;
-use words_protocol::WordsLaw;
 
 /// The cell of the queue's first node.
 const HEAD: u32 = 0;

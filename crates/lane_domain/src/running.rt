@@ -1,6 +1,6 @@
 //! How lanes run in threads.
 ghost use Rattle.std.specs.Prelude.{◌^◌, ◌<◌, All, IfOk, length};
-ghost use Rattle.deleter.specs.Weighing.{Weighs};
+ghost use Rattle.lane_files.specs.deleter.Weighing.{Weighs};
 ghost use Rattle.lane_files.specs.Lanes.{HasGrants};
 ghost use Rattle.lane_files.specs.Work.{IsWork};
 ghost use Rattle.lane_domain.specs.Beginning.{CanBegin};
@@ -9,21 +9,14 @@ ghost use Rattle.lane_domain.specs.Jobs.{AnswerAll, is_payload, weight_of};
 
 use crate::ending::LaneEnd;
 use crate::jobs::{Job, list_jobs};
-use acquire_retire::{Domain, Seat};
-use deleter::Deleter;
-use directory_protocol::RecordKind;
-use hand_queues::HandQueue;
-use lane_files::{Lane, Shared, Work, run_lane};
-use lane_gate::Gate;
-use out_of_memory::OutOfMemory;
-use plain_state::PayloadKind;
-use protocol_pairs::{Left, PairKind};
-use queue_protocol::NodeKind;
+use lane_files::{
+    Deleter, Domain, Gate, HandQueue, Lane, Left, NodeKind, OutOfMemory, PairKind, PayloadKind,
+    RecordKind, Seat, Shared, WordsLaw, Work, run_lane,
+};
 use std::alloc::Global;
 use std::sync::Wait;
 use std::thread;
 use std::thread::Threads;
-use words_protocol::WordsLaw;
 
 /// What one lane does: it attaches its seat, and counts files until no ticket is left.
 fn run_one<R: Wait, G: Gate, F: Fn(&[u64; 16]) -> u64>(

@@ -4,8 +4,7 @@ ghost use Rattle.lane_files.specs.Files.{HasPieces, pieces_in};
 ghost use Rattle.lane_files.specs.Work.{IsWork};
 ghost use Rattle.lane_domain.specs.Sizes.{IsWithinLimits, all_parts, all_pieces, parts_in};
 
-use lane_files::{FileText, Work};
-use plain_state::MOST_SLOTS;
+use lane_files::{FileText, MOST_SLOTS, Work};
 
 /// How many bytes of a text a slot holds.
 const SLOT_BYTES: u64 = 120;

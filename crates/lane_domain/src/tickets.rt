@@ -4,8 +4,7 @@ ghost use Rattle.lane_files.specs.Work.{IsWork};
 ghost use Rattle.lane_domain.specs.Sizes.{by_ticket, interns_of, makes_of};
 
 use crate::sizes::count_parts;
-use lane_files::Work;
-use out_of_memory::OutOfMemory;
+use lane_files::{OutOfMemory, Work};
 use std::alloc::Global;
 
 /// The interns of each ticket: a number for each, which is how many pieces its file has. A step for each ticket.

@@ -1,34 +1,34 @@
 -- A seat begins to read what it popped.
 use Rattle.std.proofs.Common.{◌≡◌, inl, if◌then◌else◌, Some, None, ℕ, ◌<◌, List, [], ◌∷◌, refl, sym, ap, subst, ◌∙◌, arith}
-use Rattle.plain_state.specs.declared.act.EventPlace.TheVariants.{Field}
-use Rattle.plain_state.specs.declared.act.PlainAct.TheVariants as plain
-use Rattle.plain_state.specs.declared.slot.SlotId.{SlotId}
-use Rattle.plain_state.specs.Lists.{times}
-use Rattle.plain_protocol.specs.Owns.{HasSlot, Object}
-use Rattle.core_events.specs.declared.act.Act.TheVariants as act
-use Rattle.core_events.specs.declared.outcome.Outcome.{Outcome}
-use Rattle.core_events.specs.Shows.{show_seat}
-use Rattle.core_events.specs.Steps.{HasRoom}
-use Rattle.domain_rule.specs.Views.{object_in, own_of}
-use Rattle.acquire_retire.specs.Calls.{Steps}
-use Rattle.acquire_retire.specs.Collecting.{move}
-use Rattle.acquire_retire.specs.Domains.{DomainState}
-use Rattle.acquire_retire.specs.Seats.{SeatState}
+use Rattle.control_word.specs.plain_state.declared.act.EventPlace.TheVariants.{Field}
+use Rattle.control_word.specs.plain_state.declared.act.PlainAct.TheVariants as plain
+use Rattle.control_word.specs.plain_state.declared.slot.SlotId.{SlotId}
+use Rattle.control_word.specs.plain_state.Lists.{times}
+use Rattle.control_word.specs.plain_protocol.Owns.{HasSlot, Object}
+use Rattle.control_word.specs.core_events.declared.act.Act.TheVariants as act
+use Rattle.control_word.specs.core_events.declared.outcome.Outcome.{Outcome}
+use Rattle.control_word.specs.core_events.Shows.{show_seat}
+use Rattle.control_word.specs.core_events.Steps.{HasRoom}
+use Rattle.control_word.specs.domain_rule.Views.{object_in, own_of}
+use Rattle.control_word.specs.acquire_retire.Calls.{Steps}
+use Rattle.control_word.specs.acquire_retire.Collecting.{move}
+use Rattle.control_word.specs.acquire_retire.Domains.{DomainState}
+use Rattle.control_word.specs.acquire_retire.Seats.{SeatState}
 use Rattle.control_word.specs.Moves.{Becomes}
 use Rattle.control_word.specs.Resting.{IsAtRest}
 use Rattle.control_word.proofs.Becoming.{knows_after, one_step, rest_after}
-use Rattle.protected_loads.proofs.Telling.{holds_has}
-use Rattle.queue_law.specs.Lists.{taken_items}
-use Rattle.directory_law.specs.declared.view.Ran.{Ran}
-use Rattle.directory_law.specs.Cells.{Area}
-use Rattle.directory_law.specs.Lessons.{starts_at}
-use Rattle.directory_law.specs.Payloads.{IsHead}
-use Rattle.directory_law.specs.Steps.{life_in, life_of, payload_in, payload_of}
-use Rattle.directory_law.specs.Views.{In}
-use Rattle.directory_calls.proofs.Going.{leaves_core}
-use Rattle.text_reading.specs.Reading.{begun}
-use Rattle.words_law.specs.Reading.{BeginReady, BeginTells, begin_next}
-use Rattle.words_law.specs.Views.{View}
+use Rattle.hand_queues.proofs.Below.protected_loads.Telling.{holds_has}
+use Rattle.words_protocol.specs.queue_law.Lists.{taken_items}
+use Rattle.words_protocol.specs.directory_law.declared.view.Ran.{Ran}
+use Rattle.words_protocol.specs.directory_law.Cells.{Area}
+use Rattle.words_protocol.specs.directory_law.Lessons.{starts_at}
+use Rattle.words_protocol.specs.directory_law.Payloads.{IsHead}
+use Rattle.words_protocol.specs.directory_law.Steps.{life_in, life_of, payload_in, payload_of}
+use Rattle.words_protocol.specs.directory_law.Views.{In}
+use Rattle.weak_intern.proofs.Below.directory_calls.Going.{leaves_core}
+use Rattle.weak_intern.specs.text_reading.Reading.{begun}
+use Rattle.words_protocol.specs.words_law.Reading.{BeginReady, BeginTells, begin_next}
+use Rattle.words_protocol.specs.words_law.Views.{View}
 use Rattle.words_protocol.specs.declared.law.WordsLaw.{WordsLaw}
 use Rattle.lane_files.specs.Passed.{begins}
 use Rattle.lane_files.specs.Ready.{HasPoppedIn, Owns}

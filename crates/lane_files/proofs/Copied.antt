@@ -1,35 +1,35 @@
 -- A reference that is copied before it is pushed.
 use Rattle.std.proofs.Common.{◌≡◌, ◌⊎◌, inl, inr, ⊎_elim, ℕ, ◌<◌, List, [], ◌∷◌, ◌++◌, refl, sym, ap, subst, arith, ◌≤◌, ◌+◌}
 use Rattle.std.specs.Prelude.{Err, Ok, OnErr, OnOk, Result}
-use Rattle.plain_state.specs.Lists.{times}
-use Rattle.core_events.specs.Views.{without}
-use Rattle.protected_loads.proofs.Telling.{holds_has}
-use Rattle.directory_law.specs.Bytes.{text_bytes}
-use Rattle.directory_calls.specs.Directories.{HasQuota}
-use Rattle.linked_queue.specs.Queues.{IsAttached}
-use Rattle.slot_store.specs.declared.making.MakeError.{MakeError}
-use Rattle.words_law.specs.Known.{ForgetsNothing}
+use Rattle.control_word.specs.plain_state.Lists.{times}
+use Rattle.control_word.specs.core_events.Views.{without}
+use Rattle.hand_queues.proofs.Below.protected_loads.Telling.{holds_has}
+use Rattle.words_protocol.specs.directory_law.Bytes.{text_bytes}
+use Rattle.weak_intern.specs.directory_calls.Directories.{HasQuota}
+use Rattle.hand_queues.specs.linked_queue.Queues.{IsAttached}
+use Rattle.hand_queues.specs.slot_store.declared.making.MakeError.{MakeError}
+use Rattle.words_protocol.specs.words_law.Known.{ForgetsNothing}
 use Rattle.lane_files.specs.Passed.{Counts, UsesInterns}
 use Rattle.lane_files.specs.Whys.{IsWhyCopyStays, IsWhyNotOffered}
-use Rattle.plain_state.specs.declared.slot.SlotId.{SlotId}
-use Rattle.acquire_retire.specs.Calls.{IsSameView, same_view}
-use Rattle.acquire_retire.specs.Domains.{DomainState}
-use Rattle.acquire_retire.specs.Seats.{SeatState}
+use Rattle.control_word.specs.plain_state.declared.slot.SlotId.{SlotId}
+use Rattle.control_word.specs.acquire_retire.Calls.{IsSameView, same_view}
+use Rattle.control_word.specs.acquire_retire.Domains.{DomainState}
+use Rattle.control_word.specs.acquire_retire.Seats.{SeatState}
 use Rattle.control_word.specs.Calls.{DropsStrong, GainsStrong, with_strong, without_strong}
 use Rattle.control_word.specs.Moves.{KnowsStill}
-use Rattle.core_events.specs.Steps.{HasRoom}
+use Rattle.control_word.specs.core_events.Steps.{HasRoom}
 use Rattle.control_word.specs.Resting.{IsAtRest, IsSpent}
-use Rattle.directory_calls.proofs.Going.{leaves_core}
-use Rattle.directory_law.specs.declared.view.Ran.{Ran}
-use Rattle.directory_law.specs.Payloads.{IsText, Text}
-use Rattle.directory_law.specs.Views.{In, rope}
-use Rattle.domain_rule.specs.Views.{object_in}
+use Rattle.weak_intern.proofs.Below.directory_calls.Going.{leaves_core}
+use Rattle.words_protocol.specs.directory_law.declared.view.Ran.{Ran}
+use Rattle.words_protocol.specs.directory_law.Payloads.{IsText, Text}
+use Rattle.words_protocol.specs.directory_law.Views.{In, rope}
+use Rattle.control_word.specs.domain_rule.Views.{object_in}
 use Rattle.weak_intern.specs.Knowing.{Knows}
-use Rattle.words_law.specs.Views.{View}
+use Rattle.words_protocol.specs.words_law.Views.{View}
 use Rattle.words_protocol.specs.declared.law.WordsLaw.{WordsLaw}
 use Rattle.lane_files.specs.Ready.{IsReady, Owns, Shared}
 use Rattle.lane_files.proofs.SeatsKept.{gave_item, owns_back, owns_by, ready_by, uses_none, uses_then}
-use Rattle.core_events.specs.declared.view.CoreView.{CoreView}
+use Rattle.control_word.specs.core_events.declared.view.CoreView.{CoreView}
 use Rattle.lane_files.proofs.Offered.{texts}
 
 -- what a seat knows of the text of s, by its view and by the life and the payload of s

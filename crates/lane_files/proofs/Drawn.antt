@@ -1,18 +1,18 @@
 -- What a seat owns after draws of tickets, and what a draw leaves of it.
 use Rattle.std.proofs.Common.{◌≡◌, ℕ, ◌+◌, ◌≤◌, List, [], refl, sym, ap, subst, ◌∙◌, arith}
-use Rattle.plain_state.specs.declared.slot.SlotId.{SlotId}
-use Rattle.plain_state.specs.Lists.{times}
-use Rattle.core_events.specs.declared.view.CoreView.{CoreView}
-use Rattle.core_events.specs.Views.{Holds, held_times}
-use Rattle.core_law.proofs.Kit.{times_none}
-use Rattle.acquire_retire.specs.Domains.{DomainState}
-use Rattle.acquire_retire.specs.Seats.{SeatState}
-use Rattle.directory_calls.specs.Directories.{area_of}
-use Rattle.directory_law.specs.Lessons.{drawn}
+use Rattle.control_word.specs.plain_state.declared.slot.SlotId.{SlotId}
+use Rattle.control_word.specs.plain_state.Lists.{times}
+use Rattle.control_word.specs.core_events.declared.view.CoreView.{CoreView}
+use Rattle.control_word.specs.core_events.Views.{Holds, held_times}
+use Rattle.control_word.proofs.Below.core_law.Kit.{times_none}
+use Rattle.control_word.specs.acquire_retire.Domains.{DomainState}
+use Rattle.control_word.specs.acquire_retire.Seats.{SeatState}
+use Rattle.weak_intern.specs.directory_calls.Directories.{area_of}
+use Rattle.words_protocol.specs.directory_law.Lessons.{drawn}
 use Rattle.hand_queues.specs.Pushes.{deeds_of}
-use Rattle.queue_law.specs.declared.view.View.{View as QueueView}
+use Rattle.words_protocol.specs.queue_law.declared.view.View.{View as QueueView}
 use Rattle.weak_intern.specs.Drawing.{Draws}
-use Rattle.words_law.specs.Views.{View}
+use Rattle.words_protocol.specs.words_law.Views.{View}
 use Rattle.words_protocol.specs.declared.law.WordsLaw.{WordsLaw}
 use Rattle.lane_files.specs.Passed.{Takes, did}
 use Rattle.lane_files.specs.Ready.{Owns}

@@ -1,23 +1,23 @@
 -- What an intern leaves of a seat that counts words.
 use Rattle.std.proofs.Common.{◌≡◌, ℕ, ◌≤◌, List, [], true, refl, sym, ap, subst, ◌∙◌, arith, rules}
 use Rattle.std.specs.Prelude.{Err, IfErr, IfOk, IsErr, Ok, Result, ◌≢◌}
-use Rattle.plain_state.specs.declared.slot.SlotId.{SlotId}
-use Rattle.core_events.specs.Steps.{HasRoom}
-use Rattle.acquire_retire.specs.Domains.{DomainState}
-use Rattle.acquire_retire.specs.Seats.{SeatState}
+use Rattle.control_word.specs.plain_state.declared.slot.SlotId.{SlotId}
+use Rattle.control_word.specs.core_events.Steps.{HasRoom}
+use Rattle.control_word.specs.acquire_retire.Domains.{DomainState}
+use Rattle.control_word.specs.acquire_retire.Seats.{SeatState}
 use Rattle.control_word.specs.Resting.{IsAtRest, IsSpent}
-use Rattle.counted_handles.specs.Handles.{Handle}
-use Rattle.directory_law.specs.declared.view.View.{View as DirectoryView}
-use Rattle.directory_calls.specs.Directories.{CanCount, HasNoRecord, HasQuota}
-use Rattle.directory_calls.specs.Steps.{AtStep}
+use Rattle.control_word.specs.counted_handles.Handles.{Handle}
+use Rattle.words_protocol.specs.directory_law.declared.view.View.{View as DirectoryView}
+use Rattle.weak_intern.specs.directory_calls.Directories.{CanCount, HasNoRecord, HasQuota}
+use Rattle.weak_intern.specs.directory_calls.Steps.{AtStep}
 use Rattle.hand_queues.specs.Pushes.{deeds_of}
-use Rattle.linked_queue.specs.Queues.{IsAttached}
-use Rattle.record_making.specs.Making.{MissesWithin}
-use Rattle.slot_store.specs.Calls.{HasNoMake}
-use Rattle.slot_store.specs.declared.making.MakeError.{MakeError}
-use Rattle.slot_store.specs.declared.making.MakeError.TheVariants as unmade
+use Rattle.hand_queues.specs.linked_queue.Queues.{IsAttached}
+use Rattle.weak_intern.specs.record_making.Making.{MissesWithin}
+use Rattle.hand_queues.specs.slot_store.Calls.{HasNoMake}
+use Rattle.hand_queues.specs.slot_store.declared.making.MakeError.{MakeError}
+use Rattle.hand_queues.specs.slot_store.declared.making.MakeError.TheVariants as unmade
 use Rattle.weak_intern.specs.Interning.{GrowsIn, Interns, interned_by}
-use Rattle.words_law.specs.Views.{View}
+use Rattle.words_protocol.specs.words_law.Views.{View}
 use Rattle.words_protocol.specs.declared.law.WordsLaw.{WordsLaw}
 use Rattle.lane_files.specs.Passed.{Counts, UsesInterns}
 use Rattle.lane_files.specs.Pieces.{InternsFirst, IsWhyNotInterned, texts_of}

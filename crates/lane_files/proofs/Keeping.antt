@@ -3,13 +3,13 @@ use Rattle.std.proofs.Common.{◌≡◌, ℕ, ◌<◌, Bool, true, false, [], �
 use Rattle.std.specs.Prelude.{◌==◌, cond}
 use Rattle.std.proofs.lemmas.Bool.Decides.{nat_tests}
 use Rattle.std.proofs.lemmas.List.{append-nil}
-use Rattle.plain_state.specs.declared.slot.SlotId.{SlotId}
-use Rattle.plain_state.specs.Lists.{times}
-use Rattle.core_events.specs.Views.{without}
-use Rattle.core_law.proofs.Kit.{times_push, times_without}
-use Rattle.counted_handles.specs.Handles.{Handle}
-use Rattle.acquire_retire.specs.Seats.{SeatState}
-use Rattle.words_law.specs.Views.{View}
+use Rattle.control_word.specs.plain_state.declared.slot.SlotId.{SlotId}
+use Rattle.control_word.specs.plain_state.Lists.{times}
+use Rattle.control_word.specs.core_events.Views.{without}
+use Rattle.control_word.proofs.Below.core_law.Kit.{times_push, times_without}
+use Rattle.control_word.specs.counted_handles.Handles.{Handle}
+use Rattle.control_word.specs.acquire_retire.Seats.{SeatState}
+use Rattle.words_protocol.specs.words_law.Views.{View}
 use Rattle.lane_files.specs.Ready.{Owns}
 use Rattle.lane_files.proofs.SeatsKept.{owns_as, owns_none}
 use Rattle.lane_files.specs.declared.keeper.Keeper.{Keeper}

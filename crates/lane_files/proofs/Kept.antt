@@ -1,15 +1,15 @@
 -- What the seat owns after one piece more.
 use Rattle.std.proofs.Common.{◌≡◌, inl, ℕ, ◌<◌, Bool, true, false, List, [], ◌∷◌, ◌++◌, refl, ap, ◌∙◌, arith}
 use Rattle.std.specs.Prelude.{cond}
-use Rattle.plain_state.specs.declared.slot.SlotId.{SlotId}
-use Rattle.plain_state.specs.Lists.{times}
-use Rattle.core_events.specs.Views.{without}
-use Rattle.core_events.specs.Counts.{one}
-use Rattle.core_law.proofs.Kit.{one_same, times_append, times_push, times_without}
-use Rattle.counted_handles.specs.Handles.{Handle}
-use Rattle.acquire_retire.specs.Seats.{SeatState}
+use Rattle.control_word.specs.plain_state.declared.slot.SlotId.{SlotId}
+use Rattle.control_word.specs.plain_state.Lists.{times}
+use Rattle.control_word.specs.core_events.Views.{without}
+use Rattle.control_word.specs.core_events.Counts.{one}
+use Rattle.control_word.proofs.Below.core_law.Kit.{one_same, times_append, times_push, times_without}
+use Rattle.control_word.specs.counted_handles.Handles.{Handle}
+use Rattle.control_word.specs.acquire_retire.Seats.{SeatState}
 use Rattle.weak_intern.specs.Knowing.{KnowsRecord}
-use Rattle.words_law.specs.Views.{View}
+use Rattle.words_protocol.specs.words_law.Views.{View}
 use Rattle.lane_files.specs.Ready.{Owns}
 use Rattle.lane_files.proofs.Copied.{knows_on}
 use Rattle.lane_files.proofs.SeatsKept.{owns_as, owns_on, owns_then}

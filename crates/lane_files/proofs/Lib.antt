@@ -1,3 +1,4 @@
+pub mod Below
 pub mod Begun
 pub mod Copied
 pub mod PiecesCounted

@@ -4,8 +4,8 @@ use Rattle.std.specs.Prelude.{All, length, slice_index_or, take}
 use Rattle.std.specs.List.{flat_map}
 use Rattle.std.proofs.lemmas.List.{length-append, length-take-le, take_more}
 use Rattle.std.proofs.lemmas.List.Sums.{sum_by-append, sum_by-cons, sum_by-take-le}
-use Rattle.core_events.specs.Views.{granted}
-use Rattle.cdrc_text.specs.Text.{slots_of_word}
+use Rattle.control_word.specs.core_events.Views.{granted}
+use Rattle.words_protocol.specs.cdrc_text.Text.{slots_of_word}
 use Rattle.lane_files.specs.declared.work.Work.{Work}
 use Rattle.lane_files.specs.Makes.{GrantsMakes, makes_for}
 use Rattle.lane_files.specs.Work.{all_tickets, words_of, words_of_all}

@@ -1,21 +1,21 @@
 -- A search that found each slot taken shows that more makes were given than there are slots.
 use Rattle.std.proofs.Common.{◌≡◌, inl, inr, ⊎_elim, ℕ, ◌<◌, false, List, [], ◌∷◌, ◌++◌, refl, ap, sym, ◌∙◌, subst}
-use Rattle.plain_state.specs.declared.slot.SlotId.{SlotId}
-use Rattle.core_events.specs.declared.act.Act.TheVariants as act
-use Rattle.core_events.specs.declared.act.Event.{Event}
-use Rattle.core_events.specs.declared.outcome.Outcome.{Outcome}
-use Rattle.core_events.specs.declared.outcome.Outcome.TheVariants as outcome
-use Rattle.core_events.specs.declared.view.CoreView.{CoreView}
-use Rattle.core_events.specs.declared.view.Move.{Move}
-use Rattle.core_events.specs.Runs.{AreTerms, Core, History, IsShape, after, view_at}
-use Rattle.core_events.specs.Steps.{HasMake}
-use Rattle.claim_law.specs.Claims.{ShowsTaken, makes_given}
-use Rattle.claim_law.proofs.Taken.{taken_slots_were_made}
-use Rattle.acquire_retire.specs.Collecting.{Walks, move}
-use Rattle.acquire_retire.specs.Domains.{DomainState}
-use Rattle.acquire_retire.specs.Seats.{SeatState}
+use Rattle.control_word.specs.plain_state.declared.slot.SlotId.{SlotId}
+use Rattle.control_word.specs.core_events.declared.act.Act.TheVariants as act
+use Rattle.control_word.specs.core_events.declared.act.Event.{Event}
+use Rattle.control_word.specs.core_events.declared.outcome.Outcome.{Outcome}
+use Rattle.control_word.specs.core_events.declared.outcome.Outcome.TheVariants as outcome
+use Rattle.control_word.specs.core_events.declared.view.CoreView.{CoreView}
+use Rattle.control_word.specs.core_events.declared.view.Move.{Move}
+use Rattle.control_word.specs.core_events.Runs.{AreTerms, Core, History, IsShape, after, view_at}
+use Rattle.control_word.specs.core_events.Steps.{HasMake}
+use Rattle.hand_queues.specs.claim_law.Claims.{ShowsTaken, makes_given}
+use Rattle.hand_queues.proofs.Below.claim_law.Taken.{taken_slots_were_made}
+use Rattle.control_word.specs.acquire_retire.Collecting.{Walks, move}
+use Rattle.control_word.specs.acquire_retire.Domains.{DomainState}
+use Rattle.control_word.specs.acquire_retire.Seats.{SeatState}
 use Rattle.control_word.proofs.Finding.{seat_there}
-use Rattle.slot_store.specs.Searching.{IsShownTaken, Misses, Try, taken_by}
+use Rattle.hand_queues.specs.slot_store.Searching.{IsShownTaken, Misses, Try, taken_by}
 
 -- a seat of a state that has a history has this view
 record Stood {P : Type 0} (d : DomainState P) (v : CoreView) : Type 0 where

@@ -1,13 +1,13 @@
 -- One piece that was counted, whose record was kept or given up, and then what ended was destroyed.
 use Rattle.std.proofs.Common.{◌≡◌, ℕ, ◌+◌, ◌<◌, ◌≤◌, Bool, true, List, [], ◌∷◌, ◌++◌, refl, sym, subst, ◌∙◌, arith}
 use Rattle.std.specs.Prelude.{cond}
-use Rattle.plain_state.specs.declared.slot.SlotId.{SlotId}
-use Rattle.plain_state.specs.Lists.{times}
-use Rattle.counted_handles.specs.Handles.{Handle}
-use Rattle.acquire_retire.specs.Seats.{SeatState}
+use Rattle.control_word.specs.plain_state.declared.slot.SlotId.{SlotId}
+use Rattle.control_word.specs.plain_state.Lists.{times}
+use Rattle.control_word.specs.counted_handles.Handles.{Handle}
+use Rattle.control_word.specs.acquire_retire.Seats.{SeatState}
 use Rattle.weak_intern.specs.Knowing.{KnowsRecord}
-use Rattle.cdrc_text.specs.Text.{slots_of_word}
-use Rattle.words_law.specs.Views.{View}
+use Rattle.words_protocol.specs.cdrc_text.Text.{slots_of_word}
+use Rattle.words_protocol.specs.words_law.Views.{View}
 use Rattle.lane_files.specs.Passed.{Takes, UsesInterns}
 use Rattle.lane_files.specs.Ready.{Owns}
 use Rattle.lane_files.specs.Scans.{scans_of}

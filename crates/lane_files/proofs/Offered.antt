@@ -1,30 +1,30 @@
 -- A record that the seat knows may be pushed, and then counts as one word.
 use Rattle.std.proofs.Common.{◌≡◌, inl, inr, ⊎_elim, ℕ, List, [], ◌∷◌, ◌++◌, refl, sym, ap, subst, ◌∙◌, ◌≤◌}
 use Rattle.std.specs.Prelude.{Err, IfOk, Ok, OnErr, OnOk, Result}
-use Rattle.plain_state.specs.declared.slot.SlotId.{SlotId}
-use Rattle.acquire_retire.specs.Seats.{SeatState}
-use Rattle.part_calls.specs.Parts.{seen_by}
-use Rattle.queue_law.specs.declared.view.Item.{Item}
-use Rattle.queue_law.specs.declared.view.Taken.{Taken}
-use Rattle.queue_law.specs.declared.view.View.{View as QueueView}
-use Rattle.directory_law.specs.declared.view.View.{View as DirectoryView}
-use Rattle.directory_law.specs.Bytes.{text_bytes}
-use Rattle.directory_law.specs.Payloads.{Text}
-use Rattle.linked_queue.specs.Pops.{item_in}
-use Rattle.linked_queue.specs.Pushes.{pushed_too}
-use Rattle.linked_queue.specs.Queues.{deeds_in}
-use Rattle.double_link_queue.specs.Pushes.{PushesNothing, landed_in}
+use Rattle.control_word.specs.plain_state.declared.slot.SlotId.{SlotId}
+use Rattle.control_word.specs.acquire_retire.Seats.{SeatState}
+use Rattle.hand_queues.specs.part_calls.Parts.{seen_by}
+use Rattle.words_protocol.specs.queue_law.declared.view.Item.{Item}
+use Rattle.words_protocol.specs.queue_law.declared.view.Taken.{Taken}
+use Rattle.words_protocol.specs.queue_law.declared.view.View.{View as QueueView}
+use Rattle.words_protocol.specs.directory_law.declared.view.View.{View as DirectoryView}
+use Rattle.words_protocol.specs.directory_law.Bytes.{text_bytes}
+use Rattle.words_protocol.specs.directory_law.Payloads.{Text}
+use Rattle.hand_queues.specs.linked_queue.Pops.{item_in}
+use Rattle.hand_queues.specs.linked_queue.Pushes.{pushed_too}
+use Rattle.hand_queues.specs.linked_queue.Queues.{deeds_in}
+use Rattle.hand_queues.specs.double_link_queue.Pushes.{PushesNothing, landed_in}
 use Rattle.hand_queues.specs.Pushes.{Pushes, deeds_of}
 use Rattle.weak_intern.specs.Knowing.{Knows}
-use Rattle.words_law.specs.Known.{ForgetsNothing, KnowsText}
-use Rattle.words_law.specs.Pushes.{MayPush}
-use Rattle.words_law.specs.Views.{View}
-use Rattle.core_events.specs.Steps.{HasRoom}
-use Rattle.core_events.specs.Views.{without}
-use Rattle.acquire_retire.specs.Domains.{DomainState}
+use Rattle.words_protocol.specs.words_law.Known.{ForgetsNothing, KnowsText}
+use Rattle.words_protocol.specs.words_law.Pushes.{MayPush}
+use Rattle.words_protocol.specs.words_law.Views.{View}
+use Rattle.control_word.specs.core_events.Steps.{HasRoom}
+use Rattle.control_word.specs.core_events.Views.{without}
+use Rattle.control_word.specs.acquire_retire.Domains.{DomainState}
 use Rattle.control_word.specs.Resting.{IsAtRest}
-use Rattle.directory_calls.specs.Directories.{HasQuota}
-use Rattle.linked_queue.specs.Queues.{IsAttached}
+use Rattle.weak_intern.specs.directory_calls.Directories.{HasQuota}
+use Rattle.hand_queues.specs.linked_queue.Queues.{IsAttached}
 use Rattle.words_protocol.specs.declared.law.WordsLaw.{WordsLaw}
 use Rattle.lane_files.specs.Passed.{Counts, did}
 use Rattle.lane_files.specs.Ready.{IsReady, Shared, Owns}

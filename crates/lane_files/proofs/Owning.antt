@@ -1,16 +1,16 @@
 -- What a lane owns that stops since each slot was found taken: records alone.
 use Rattle.std.proofs.Common.{◌≡◌, ⊎_elim, ℕ, ◌<◌, List, [], ◌∷◌, sym, ap, subst, arith}
 use Rattle.std.specs.Prelude.{Some}
-use Rattle.plain_state.specs.declared.slot.SlotId.{SlotId}
-use Rattle.plain_state.specs.Lists.{times}
-use Rattle.core_law.proofs.Kit.{times_append, times_cons, times_none}
-use Rattle.domain_rule.specs.Views.{object_in}
-use Rattle.acquire_retire.specs.Domains.{DomainState}
-use Rattle.acquire_retire.specs.Seats.{SeatState}
-use Rattle.slot_store.specs.declared.making.MakeError.TheVariants as unmade
+use Rattle.control_word.specs.plain_state.declared.slot.SlotId.{SlotId}
+use Rattle.control_word.specs.plain_state.Lists.{times}
+use Rattle.control_word.proofs.Below.core_law.Kit.{times_append, times_cons, times_none}
+use Rattle.control_word.specs.domain_rule.Views.{object_in}
+use Rattle.control_word.specs.acquire_retire.Domains.{DomainState}
+use Rattle.control_word.specs.acquire_retire.Seats.{SeatState}
+use Rattle.hand_queues.specs.slot_store.declared.making.MakeError.TheVariants as unmade
 use Rattle.weak_intern.specs.Knowing.{KnowsRecord}
-use Rattle.words_law.specs.Known.{ForgetsNothing}
-use Rattle.words_law.specs.Views.{View}
+use Rattle.words_protocol.specs.words_law.Known.{ForgetsNothing}
+use Rattle.words_protocol.specs.words_law.Views.{View}
 use Rattle.words_protocol.specs.declared.law.WordsLaw.{WordsLaw}
 use Rattle.lane_files.specs.declared.lane.Lane.{Lane}
 use Rattle.lane_files.specs.declared.refusal.FileError.{FileError}

@@ -1,19 +1,19 @@
 -- A record that was passed on, after it was interned.
 use Rattle.std.proofs.Common.{◌≡◌, inl, inr, ⊎_elim, ℕ, ◌<◌, ◌≤◌, Bool, false, List, [], ◌∷◌, ◌++◌, refl, sym, subst, arith}
 use Rattle.std.specs.Prelude.{Err, Ok, OnOk, Result, cond, slice_index_or}
-use Rattle.plain_state.specs.declared.slot.SlotId.{SlotId}
-use Rattle.plain_state.specs.Lists.{times}
-use Rattle.core_law.proofs.Kit.{one_same, times_push}
-use Rattle.acquire_retire.specs.Domains.{DomainState}
-use Rattle.acquire_retire.specs.Seats.{SeatState}
+use Rattle.control_word.specs.plain_state.declared.slot.SlotId.{SlotId}
+use Rattle.control_word.specs.plain_state.Lists.{times}
+use Rattle.control_word.proofs.Below.core_law.Kit.{one_same, times_push}
+use Rattle.control_word.specs.acquire_retire.Domains.{DomainState}
+use Rattle.control_word.specs.acquire_retire.Seats.{SeatState}
 use Rattle.control_word.specs.Resting.{IsSpent}
-use Rattle.domain_rule.specs.Views.{object_in}
+use Rattle.control_word.specs.domain_rule.Views.{object_in}
 use Rattle.std.proofs.lemmas.List.Elements.{All-from_get_or}
-use Rattle.directory_law.specs.Bytes.{text_bytes}
-use Rattle.directory_law.specs.Payloads.{Text}
-use Rattle.directory_law.proofs.Bytes.{text_tells}
+use Rattle.words_protocol.specs.directory_law.Bytes.{text_bytes}
+use Rattle.words_protocol.specs.directory_law.Payloads.{Text}
+use Rattle.words_protocol.proofs.Below.directory_law.Bytes.{text_tells}
 use Rattle.weak_intern.specs.Knowing.{Knows, KnowsRecord}
-use Rattle.words_law.specs.Views.{View}
+use Rattle.words_protocol.specs.words_law.Views.{View}
 use Rattle.words_protocol.specs.declared.law.WordsLaw.{WordsLaw}
 use Rattle.lane_files.specs.declared.refusal.PieceError.{PieceError}
 use Rattle.lane_files.specs.declared.refusal.PieceError.TheVariants as refused

@@ -3,7 +3,7 @@ use Rattle.std.proofs.Common.{◌≡◌, ℕ, ◌<◌, ◌≤◌, List, [], subs
 use Rattle.std.specs.Prelude.{drop, length, slice_index_or}
 use Rattle.std.proofs.lemmas.List.{get_or-map, length-drop, length-map, length-take-le}
 use Rattle.std.proofs.lemmas.List.Elements.{All-get_or}
-use Rattle.cdrc_text.specs.Pieces.{bytes_at}
+use Rattle.words_protocol.specs.cdrc_text.Pieces.{bytes_at}
 use Rattle.lane_files.specs.declared.file.FileText.{FileText}
 use Rattle.lane_files.specs.Files.{HasPieces, IsLongPlace, pieces_in}
 

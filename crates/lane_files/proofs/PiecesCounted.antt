@@ -2,19 +2,19 @@
 use Rattle.std.proofs.Common.{◌≡◌, if◌then◌else◌, Bool, true, false, ℕ, ◌+◌, ◌≤◌, List, [], ◌∷◌, ◌++◌, refl, sym, ap, subst, ◌∙◌, arith, append_assoc}
 use Rattle.std.specs.Prelude.{map}
 use Rattle.std.proofs.lemmas.List.{append-nil, map-append, length-append}
-use Rattle.cdrc_text.specs.Fold.{times}
-use Rattle.cdrc_text.specs.Tally.{CountsOneMore, total_of}
+use Rattle.words_protocol.specs.cdrc_text.Fold.{times}
+use Rattle.words_protocol.specs.cdrc_text.Tally.{CountsOneMore, total_of}
 use Rattle.std.specs.Str.{bytes_eq}
 use Rattle.std.proofs.lemmas.List.Sums.{sum_by-append}
 use Rattle.std.specs.Prelude.{cond}
-use Rattle.queue_law.specs.declared.view.Item.{Item}
-use Rattle.queue_law.specs.declared.view.Taken.{Taken}
-use Rattle.queue_law.specs.declared.view.View.{View as QueueView}
-use Rattle.directory_law.specs.declared.view.View.{View as DirectoryView}
-use Rattle.directory_law.specs.Bytes.{text_bytes}
-use Rattle.words_law.specs.Known.{ForgetsNothing, KnowsMore}
-use Rattle.words_law.specs.Views.{View}
-use Rattle.words_law.proofs.Known.{knows_all_more, knows_both}
+use Rattle.words_protocol.specs.queue_law.declared.view.Item.{Item}
+use Rattle.words_protocol.specs.queue_law.declared.view.Taken.{Taken}
+use Rattle.words_protocol.specs.queue_law.declared.view.View.{View as QueueView}
+use Rattle.words_protocol.specs.directory_law.declared.view.View.{View as DirectoryView}
+use Rattle.words_protocol.specs.directory_law.Bytes.{text_bytes}
+use Rattle.words_protocol.specs.words_law.Known.{ForgetsNothing, KnowsMore}
+use Rattle.words_protocol.specs.words_law.Views.{View}
+use Rattle.words_protocol.proofs.Below.words_law.Known.{knows_all_more, knows_both}
 use Rattle.lane_files.specs.Passed.{Counts, KnowsWords, Takes, Tallies, by_seat, did}
 
 pub more_none : (v : DirectoryView) → ForgetsNothing v v

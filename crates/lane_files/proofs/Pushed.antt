@@ -2,16 +2,16 @@
 use Rattle.std.proofs.Common.{◌≡◌, suc, ℕ, ◌+◌, ◌≤◌, List, [], ◌∷◌, length, refl, ap, arith}
 use Rattle.std.specs.Prelude.{Some, take}
 use Rattle.std.proofs.lemmas.List.{length-append, length-map}
-use Rattle.acquire_retire.specs.Domains.{DomainState}
-use Rattle.acquire_retire.specs.Seats.{SeatState}
-use Rattle.slot_store.specs.declared.making.MakeError.TheVariants as unmade
-use Rattle.queue_law.specs.declared.view.Item.{Item}
-use Rattle.queue_law.specs.declared.view.View.{View as QueueView}
-use Rattle.directory_law.specs.declared.view.View.{View as DirectoryView}
-use Rattle.directory_law.specs.Bytes.{text_bytes}
-use Rattle.directory_law.specs.Payloads.{Text}
-use Rattle.words_law.specs.Known.{KnowsTexts}
-use Rattle.words_law.specs.Views.{View}
+use Rattle.control_word.specs.acquire_retire.Domains.{DomainState}
+use Rattle.control_word.specs.acquire_retire.Seats.{SeatState}
+use Rattle.hand_queues.specs.slot_store.declared.making.MakeError.TheVariants as unmade
+use Rattle.words_protocol.specs.queue_law.declared.view.Item.{Item}
+use Rattle.words_protocol.specs.queue_law.declared.view.View.{View as QueueView}
+use Rattle.words_protocol.specs.directory_law.declared.view.View.{View as DirectoryView}
+use Rattle.words_protocol.specs.directory_law.Bytes.{text_bytes}
+use Rattle.words_protocol.specs.directory_law.Payloads.{Text}
+use Rattle.words_protocol.specs.words_law.Known.{KnowsTexts}
+use Rattle.words_protocol.specs.words_law.Views.{View}
 use Rattle.words_protocol.specs.declared.law.WordsLaw.{WordsLaw}
 use Rattle.lane_files.specs.declared.lane.Lane.{Lane}
 use Rattle.lane_files.specs.declared.refusal.FileError.{FileError}

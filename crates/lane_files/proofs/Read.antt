@@ -1,19 +1,19 @@
 -- The word of an item that was popped.
 use Rattle.std.proofs.Common.{◌≡◌, inl, inr, ℕ, arith, List, refl, sym, ap, subst, ◌∙◌}
 use Rattle.std.specs.Prelude.{Err, Ok, OnErr, OnOk, Result}
-use Rattle.cdrc_text.specs.Tally.{CountsOneMore, count_of}
-use Rattle.plain_state.specs.declared.slot.SlotId.{SlotId}
-use Rattle.domain_rule.specs.Views.{object_in}
-use Rattle.acquire_retire.specs.Seats.{SeatState}
-use Rattle.directory_law.specs.declared.view.Ran.{Ran}
-use Rattle.directory_law.specs.declared.view.Rope.{Rope}
-use Rattle.directory_law.specs.declared.view.View.{View as DirectoryView}
-use Rattle.directory_law.specs.Bytes.{text_bytes}
-use Rattle.directory_law.specs.Payloads.{Text}
-use Rattle.directory_law.specs.Views.{In}
-use Rattle.directory_calls.specs.Learning.{LearnsIn}
-use Rattle.text_reading.specs.Reading.{HasBegun, HasRead, begun}
-use Rattle.words_law.specs.Views.{View}
+use Rattle.words_protocol.specs.cdrc_text.Tally.{CountsOneMore, count_of}
+use Rattle.control_word.specs.plain_state.declared.slot.SlotId.{SlotId}
+use Rattle.control_word.specs.domain_rule.Views.{object_in}
+use Rattle.control_word.specs.acquire_retire.Seats.{SeatState}
+use Rattle.words_protocol.specs.directory_law.declared.view.Ran.{Ran}
+use Rattle.words_protocol.specs.directory_law.declared.view.Rope.{Rope}
+use Rattle.words_protocol.specs.directory_law.declared.view.View.{View as DirectoryView}
+use Rattle.words_protocol.specs.directory_law.Bytes.{text_bytes}
+use Rattle.words_protocol.specs.directory_law.Payloads.{Text}
+use Rattle.words_protocol.specs.directory_law.Views.{In}
+use Rattle.weak_intern.specs.directory_calls.Learning.{LearnsIn}
+use Rattle.weak_intern.specs.text_reading.Reading.{HasBegun, HasRead, begun}
+use Rattle.words_protocol.specs.words_law.Views.{View}
 use Rattle.lane_files.specs.Passed.{HasReadIn, OnlyReads, ReadsWord, TalliesIf, begins}
 use Rattle.lane_files.proofs.PiecesCounted.{tallies_one}
 use Rattle.lane_files.proofs.Offered.{queues, texts}

@@ -3,16 +3,16 @@ use Rattle.std.proofs.Common.{◌≡◌, ◌⊎◌, inl, inr, ⊎_elim, ℕ, zer
 use Rattle.std.specs.Prelude.{◌==◌, cond, nat_lt}
 use Rattle.std.proofs.lemmas.Bool.{cases_eq, lt-ltb, ltb-false, ltb-true}
 use Rattle.std.proofs.lemmas.Bool.Decides.{nat_tests}
-use Rattle.plain_state.specs.declared.slot.SlotId.{SlotId}
-use Rattle.plain_state.specs.Lists.{times}
-use Rattle.core_events.specs.Counts.{one}
-use Rattle.core_law.proofs.Kit.{one_other, one_same, times_append, times_cons, times_none, times_push}
-use Rattle.counted_handles.specs.Handles.{Handle}
-use Rattle.domain_rule.specs.Views.{object_in}
-use Rattle.acquire_retire.specs.Seats.{SeatState}
+use Rattle.control_word.specs.plain_state.declared.slot.SlotId.{SlotId}
+use Rattle.control_word.specs.plain_state.Lists.{times}
+use Rattle.control_word.specs.core_events.Counts.{one}
+use Rattle.control_word.proofs.Below.core_law.Kit.{one_other, one_same, times_append, times_cons, times_none, times_push}
+use Rattle.control_word.specs.counted_handles.Handles.{Handle}
+use Rattle.control_word.specs.domain_rule.Views.{object_in}
+use Rattle.control_word.specs.acquire_retire.Seats.{SeatState}
 use Rattle.weak_intern.specs.Knowing.{KnowsRecord}
-use Rattle.words_law.specs.Known.{ForgetsNothing}
-use Rattle.words_law.specs.Views.{View}
+use Rattle.words_protocol.specs.words_law.Known.{ForgetsNothing}
+use Rattle.words_protocol.specs.words_law.Views.{View}
 use Rattle.lane_files.proofs.Copied.{knows_still}
 use Rattle.lane_files.proofs.Offered.{texts}
 use Rattle.lane_files.specs.Counting.{KeepsRecords, KnowsEach}

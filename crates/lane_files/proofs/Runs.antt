@@ -5,14 +5,14 @@ use Rattle.std.specs.List.{flat_map}
 use Rattle.std.proofs.lemmas.List.{append-nil, length-append}
 use Rattle.std.proofs.lemmas.List.Elements.{All-push}
 use Rattle.std.proofs.lemmas.Nat.{mul-le}
-use Rattle.core_events.specs.declared.view.CoreView.{CoreView}
-use Rattle.acquire_retire.specs.Domains.{DomainState}
-use Rattle.acquire_retire.specs.Seats.{SeatState}
-use Rattle.cdrc_text.specs.Tally.{total_of}
+use Rattle.control_word.specs.core_events.declared.view.CoreView.{CoreView}
+use Rattle.control_word.specs.acquire_retire.Domains.{DomainState}
+use Rattle.control_word.specs.acquire_retire.Seats.{SeatState}
+use Rattle.words_protocol.specs.cdrc_text.Tally.{total_of}
 use Rattle.control_word.specs.Resting.{IsSpent}
-use Rattle.directory_calls.specs.Directories.{area_of}
+use Rattle.weak_intern.specs.directory_calls.Directories.{area_of}
 use Rattle.weak_intern.specs.Drawing.{Draws}
-use Rattle.words_law.specs.Views.{View}
+use Rattle.words_protocol.specs.words_law.Views.{View}
 use Rattle.words_protocol.specs.declared.law.WordsLaw.{WordsLaw}
 use Rattle.lane_files.proofs.PiecesCounted.{takes_none}
 use Rattle.lane_files.specs.declared.lane.Lane.{Lane}

@@ -1,29 +1,29 @@
 -- What calls leave of a seat that counts words.
 use Rattle.std.proofs.Common.{◌≡◌, ◌⊎◌, inl, ⊎_elim, ℕ, ◌+◌, ◌<◌, ◌≤◌, Bool, true, false, List, [], ◌∷◌, ◌++◌, refl, sym, ap, subst, ◌∙◌, arith}
-use Rattle.plain_state.specs.declared.slot.SlotId.{SlotId}
-use Rattle.plain_state.specs.Lists.{times}
-use Rattle.core_events.specs.declared.view.CoreView.{CoreView}
-use Rattle.core_events.specs.declared.view.Move.{Move}
-use Rattle.core_events.specs.Steps.{HasRoom}
-use Rattle.core_events.specs.Views.{Holds, without}
-use Rattle.core_law.proofs.Kit.{one_same, times_push, times_without}
-use Rattle.acquire_retire.specs.Domains.{DomainState}
-use Rattle.acquire_retire.specs.Seats.{SeatState}
-use Rattle.acquire_retire.specs.Collecting.{ends}
+use Rattle.control_word.specs.plain_state.declared.slot.SlotId.{SlotId}
+use Rattle.control_word.specs.plain_state.Lists.{times}
+use Rattle.control_word.specs.core_events.declared.view.CoreView.{CoreView}
+use Rattle.control_word.specs.core_events.declared.view.Move.{Move}
+use Rattle.control_word.specs.core_events.Steps.{HasRoom}
+use Rattle.control_word.specs.core_events.Views.{Holds, without}
+use Rattle.control_word.proofs.Below.core_law.Kit.{one_same, times_push, times_without}
+use Rattle.control_word.specs.acquire_retire.Domains.{DomainState}
+use Rattle.control_word.specs.acquire_retire.Seats.{SeatState}
+use Rattle.control_word.specs.acquire_retire.Collecting.{ends}
 use Rattle.control_word.specs.Calls.{DropsStrong, with_ended, without_strong}
 use Rattle.control_word.specs.Moves.{KnowsStill}
 use Rattle.control_word.specs.Resting.{IsAtRest, IsSpent}
-use Rattle.protected_loads.proofs.Telling.{holds_has}
-use Rattle.directory_calls.specs.Directories.{HasQuota}
-use Rattle.directory_calls.specs.Steps.{Leaves}
-use Rattle.directory_calls.proofs.Going.{holds_by, leaves_less}
-use Rattle.text_reading.specs.Reading.{HasTwoFree}
-use Rattle.linked_queue.specs.Leaving as queue
-use Rattle.double_link_queue.specs.Leaving.{LeavesBoth}
-use Rattle.linked_queue.specs.Queues.{IsAttached}
-use Rattle.part_calls.specs.Parts.{seen_by}
-use Rattle.directory_law.specs.declared.view.View.{View as DirectoryView}
-use Rattle.words_law.specs.Views.{View}
+use Rattle.hand_queues.proofs.Below.protected_loads.Telling.{holds_has}
+use Rattle.weak_intern.specs.directory_calls.Directories.{HasQuota}
+use Rattle.weak_intern.specs.directory_calls.Steps.{Leaves}
+use Rattle.weak_intern.proofs.Below.directory_calls.Going.{holds_by, leaves_less}
+use Rattle.weak_intern.specs.text_reading.Reading.{HasTwoFree}
+use Rattle.hand_queues.specs.linked_queue.Leaving as queue
+use Rattle.hand_queues.specs.double_link_queue.Leaving.{LeavesBoth}
+use Rattle.hand_queues.specs.linked_queue.Queues.{IsAttached}
+use Rattle.hand_queues.specs.part_calls.Parts.{seen_by}
+use Rattle.words_protocol.specs.directory_law.declared.view.View.{View as DirectoryView}
+use Rattle.words_protocol.specs.words_law.Views.{View}
 use Rattle.words_protocol.specs.declared.law.WordsLaw.{WordsLaw}
 use Rattle.lane_files.specs.Passed.{UsesInterns}
 use Rattle.lane_files.specs.Ready.{IsReady, Owns, Shared}

@@ -1,32 +1,32 @@
 -- An item that was popped and read counts as one word.
 use Rattle.std.proofs.Common.{◌≡◌, inl, inr, ℕ, List, [], ◌∷◌, ◌++◌, refl, sym, ap, subst, ◌∙◌}
-use Rattle.plain_state.specs.declared.slot.SlotId.{SlotId}
-use Rattle.domain_rule.specs.Views.{object_in}
-use Rattle.acquire_retire.specs.Seats.{SeatState}
-use Rattle.queue_law.specs.declared.view.Item.{Item}
-use Rattle.queue_law.specs.declared.view.Taken.{Taken}
-use Rattle.queue_law.specs.declared.view.View.{View as QueueView}
-use Rattle.queue_law.specs.Lists.{taken_items}
-use Rattle.directory_law.specs.Views.{In}
-use Rattle.double_link_queue.specs.Pushes.{landed_in}
+use Rattle.control_word.specs.plain_state.declared.slot.SlotId.{SlotId}
+use Rattle.control_word.specs.domain_rule.Views.{object_in}
+use Rattle.control_word.specs.acquire_retire.Seats.{SeatState}
+use Rattle.words_protocol.specs.queue_law.declared.view.Item.{Item}
+use Rattle.words_protocol.specs.queue_law.declared.view.Taken.{Taken}
+use Rattle.words_protocol.specs.queue_law.declared.view.View.{View as QueueView}
+use Rattle.words_protocol.specs.queue_law.Lists.{taken_items}
+use Rattle.words_protocol.specs.directory_law.Views.{In}
+use Rattle.hand_queues.specs.double_link_queue.Pushes.{landed_in}
 use Rattle.hand_queues.specs.Pushes.{deeds_of}
-use Rattle.words_law.specs.Known.{ForgetsNothing}
-use Rattle.words_law.specs.Views.{View}
+use Rattle.words_protocol.specs.words_law.Known.{ForgetsNothing}
+use Rattle.words_protocol.specs.words_law.Views.{View}
 use Rattle.std.specs.Prelude.{Err, IfErr, IsErrAnd, None, Ok, Option, Result, Some}
-use Rattle.atomic_shared.specs.Places.{named}
-use Rattle.counted_handles.specs.Handles.{Handle}
-use Rattle.core_events.specs.Steps.{HasRoom}
-use Rattle.core_events.specs.Views.{without}
-use Rattle.acquire_retire.specs.Domains.{DomainState}
+use Rattle.hand_queues.specs.atomic_shared.Places.{named}
+use Rattle.control_word.specs.counted_handles.Handles.{Handle}
+use Rattle.control_word.specs.core_events.Steps.{HasRoom}
+use Rattle.control_word.specs.core_events.Views.{without}
+use Rattle.control_word.specs.acquire_retire.Domains.{DomainState}
 use Rattle.control_word.specs.Resting.{IsAtRest, IsSpent}
-use Rattle.part_calls.specs.Parts.{seen_by}
-use Rattle.directory_calls.specs.Directories.{HasQuota}
-use Rattle.linked_queue.specs.Pops.{Pops}
-use Rattle.linked_queue.specs.Queues.{IsAttached}
+use Rattle.hand_queues.specs.part_calls.Parts.{seen_by}
+use Rattle.weak_intern.specs.directory_calls.Directories.{HasQuota}
+use Rattle.hand_queues.specs.linked_queue.Pops.{Pops}
+use Rattle.hand_queues.specs.linked_queue.Queues.{IsAttached}
 use Rattle.words_protocol.specs.declared.law.WordsLaw.{WordsLaw}
-use Rattle.slot_store.specs.declared.making.MakeError.TheVariants as unmade
-use Rattle.linked_queue.specs.Waits.{PopsAtLast}
-use Rattle.queue_protocol.specs.declared.law.QueueLaw.{QueueLaw}
+use Rattle.hand_queues.specs.slot_store.declared.making.MakeError.TheVariants as unmade
+use Rattle.hand_queues.specs.linked_queue.Waits.{PopsAtLast}
+use Rattle.words_protocol.specs.queue_protocol.declared.law.QueueLaw.{QueueLaw}
 use Rattle.lane_files.specs.Passed.{Counts, OnlyReads, ReadsWord, Takes, TalliesIf, UsesInterns}
 use Rattle.lane_files.specs.Ready.{HasPoppedIn, IsReady, Owns, Shared}
 use Rattle.lane_files.specs.Whys.{IsWhyNotTaken}

@@ -1,17 +1,17 @@
 -- What a collect and a reap leave of a seat.
 use Rattle.std.proofs.Common.{◌≡◌, ◌≤◌, ⊎_elim, ℕ, List, [], ap, arith}
 use Rattle.std.specs.Prelude.{None, Option, Some}
-use Rattle.plain_state.specs.Lists.{times}
-use Rattle.core_events.specs.declared.view.CoreView.{CoreView}
-use Rattle.acquire_retire.specs.Collecting.{rest_of}
-use Rattle.acquire_retire.specs.Domains.{DomainState}
-use Rattle.acquire_retire.specs.Seats.{SeatState}
-use Rattle.protected_loads.proofs.Telling.{holds_has}
-use Rattle.retiring_stores.specs.Scanning.{Collected}
-use Rattle.slot_store.specs.Reaping.{Answers, KnowsBoth}
-use Rattle.words_law.specs.Views.{View}
+use Rattle.control_word.specs.plain_state.Lists.{times}
+use Rattle.control_word.specs.core_events.declared.view.CoreView.{CoreView}
+use Rattle.control_word.specs.acquire_retire.Collecting.{rest_of}
+use Rattle.control_word.specs.acquire_retire.Domains.{DomainState}
+use Rattle.control_word.specs.acquire_retire.Seats.{SeatState}
+use Rattle.hand_queues.proofs.Below.protected_loads.Telling.{holds_has}
+use Rattle.hand_queues.specs.retiring_stores.Scanning.{Collected}
+use Rattle.hand_queues.specs.slot_store.Reaping.{Answers, KnowsBoth}
+use Rattle.words_protocol.specs.words_law.Views.{View}
 use Rattle.words_protocol.specs.declared.law.WordsLaw.{WordsLaw}
-use Rattle.slot_store.proofs.Passing.{passes_collect}
+use Rattle.hand_queues.proofs.Below.slot_store.Passing.{passes_collect}
 use Rattle.lane_files.specs.declared.shared.Shared.{Shared}
 use Rattle.lane_files.specs.Ready.{IsReady, Owns}
 use Rattle.lane_files.specs.Scans.{scans_of}

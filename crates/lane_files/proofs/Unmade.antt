@@ -1,18 +1,18 @@
 -- What is told of makes where a call was refused.
 use Rattle.std.proofs.Common.{◌≡◌, ℕ, ◌+◌, ◌≤◌, List, sym, ap, subst, ◌∙◌, arith}
 use Rattle.std.specs.Prelude.{None, Option, Some}
-use Rattle.plain_state.specs.declared.slot.SlotId.{SlotId}
-use Rattle.core_events.specs.declared.view.CoreView.{CoreView}
-use Rattle.core_events.specs.Runs.{IsShape}
-use Rattle.core_events.specs.Views.{allowed_makes}
-use Rattle.acquire_retire.specs.Calls.{IsSameView, same_view}
-use Rattle.acquire_retire.specs.Domains.{DomainState}
-use Rattle.acquire_retire.specs.Seats.{SeatState}
+use Rattle.control_word.specs.plain_state.declared.slot.SlotId.{SlotId}
+use Rattle.control_word.specs.core_events.declared.view.CoreView.{CoreView}
+use Rattle.control_word.specs.core_events.Runs.{IsShape}
+use Rattle.control_word.specs.core_events.Views.{allowed_makes}
+use Rattle.control_word.specs.acquire_retire.Calls.{IsSameView, same_view}
+use Rattle.control_word.specs.acquire_retire.Domains.{DomainState}
+use Rattle.control_word.specs.acquire_retire.Seats.{SeatState}
 use Rattle.control_word.specs.Calls.{GainsStrong}
-use Rattle.linked_queue.specs.Pushes.{UsesNone}
-use Rattle.slot_store.specs.declared.making.MakeError.{MakeError}
-use Rattle.slot_store.specs.declared.making.MakeError.TheVariants as unmade
-use Rattle.words_law.specs.Views.{View}
+use Rattle.hand_queues.specs.linked_queue.Pushes.{UsesNone}
+use Rattle.hand_queues.specs.slot_store.declared.making.MakeError.{MakeError}
+use Rattle.hand_queues.specs.slot_store.declared.making.MakeError.TheVariants as unmade
+use Rattle.words_protocol.specs.words_law.Views.{View}
 use Rattle.words_protocol.specs.declared.law.WordsLaw.{WordsLaw}
 use Rattle.lane_files.specs.declared.refusal.LaneError.{LaneError}
 use Rattle.lane_files.specs.declared.refusal.LaneError.TheVariants as untaken

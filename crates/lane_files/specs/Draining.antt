@@ -1,8 +1,8 @@
 -- What is popped until nothing is left, and why no more.
 use Rattle.std.specs.Prelude.{ℕ, ◌<◌, List, []}
-use Rattle.acquire_retire.specs.Domains.{DomainState}
-use Rattle.acquire_retire.specs.Seats.{SeatState}
-use Rattle.words_law.specs.Views.{View}
+use Rattle.control_word.specs.acquire_retire.Domains.{DomainState}
+use Rattle.control_word.specs.acquire_retire.Seats.{SeatState}
+use Rattle.words_protocol.specs.words_law.Views.{View}
 use Rattle.words_protocol.specs.declared.law.WordsLaw.{WordsLaw}
 use Rattle.lane_files.specs.declared.refusal.LaneError.{LaneError}
 use Rattle.lane_files.specs.Passed.{Counts, Takes}

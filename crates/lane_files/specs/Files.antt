@@ -1,6 +1,6 @@
 -- A file as its pieces.
 use Rattle.std.specs.Prelude.{ℕ, ◌+◌, ◌≤◌, All, List, length, map}
-use Rattle.cdrc_text.specs.Pieces.{bytes_at}
+use Rattle.words_protocol.specs.cdrc_text.Pieces.{bytes_at}
 use Rattle.lane_files.specs.declared.file.FileText.{FileText}
 
 -- the words that its pieces are, in order

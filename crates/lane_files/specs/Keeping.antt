@@ -1,14 +1,14 @@
 -- The references that a lane keeps.
 use Rattle.std.specs.Prelude.{◌≡◌, ◌≤◌, ◌==◌, ◌+◌, ◌++◌, Bool, true, cond, List, [], ◌∷◌, map}
 use Rattle.std.specs.HashSet.{contains_by}
-use Rattle.plain_state.specs.declared.slot.SlotId.{SlotId}
-use Rattle.plain_state.specs.Lists.{times}
-use Rattle.core_events.specs.Views.{Holds, without}
-use Rattle.counted_handles.specs.Handles.{Handle}
-use Rattle.domain_rule.specs.Views.{object_in}
-use Rattle.acquire_retire.specs.Seats.{SeatState}
-use Rattle.directory_calls.specs.Steps.{aside}
-use Rattle.words_law.specs.Views.{View}
+use Rattle.control_word.specs.plain_state.declared.slot.SlotId.{SlotId}
+use Rattle.control_word.specs.plain_state.Lists.{times}
+use Rattle.control_word.specs.core_events.Views.{Holds, without}
+use Rattle.control_word.specs.counted_handles.Handles.{Handle}
+use Rattle.control_word.specs.domain_rule.Views.{object_in}
+use Rattle.control_word.specs.acquire_retire.Seats.{SeatState}
+use Rattle.weak_intern.specs.directory_calls.Steps.{aside}
+use Rattle.words_protocol.specs.words_law.Views.{View}
 use Rattle.lane_files.specs.Ready.{Owns}
 use Rattle.lane_files.specs.Scans.{scans_of}
 use Rattle.lane_files.specs.declared.keeper.Keeper.{Keeper}

@@ -1,12 +1,12 @@
 -- How many objects a lane makes, and which makes were refused to it.
 use Rattle.std.specs.Prelude.{ℕ, ◌≡◌, ◌+◌, ◌<◌, ◌≤◌, List, Option, Some, None, length, slice_index_or, sum_by}
-use Rattle.core_events.specs.Views.{allowed_makes}
-use Rattle.acquire_retire.specs.Domains.{DomainState}
-use Rattle.acquire_retire.specs.Seats.{SeatState}
-use Rattle.slot_store.specs.declared.making.MakeError.{MakeError}
-use Rattle.slot_store.specs.declared.making.MakeError.TheVariants as unmade
-use Rattle.cdrc_text.specs.Text.{slots_of_word}
-use Rattle.words_law.specs.Views.{View}
+use Rattle.control_word.specs.core_events.Views.{allowed_makes}
+use Rattle.control_word.specs.acquire_retire.Domains.{DomainState}
+use Rattle.control_word.specs.acquire_retire.Seats.{SeatState}
+use Rattle.hand_queues.specs.slot_store.declared.making.MakeError.{MakeError}
+use Rattle.hand_queues.specs.slot_store.declared.making.MakeError.TheVariants as unmade
+use Rattle.words_protocol.specs.cdrc_text.Text.{slots_of_word}
+use Rattle.words_protocol.specs.words_law.Views.{View}
 use Rattle.words_protocol.specs.declared.law.WordsLaw.{WordsLaw}
 use Rattle.lane_files.specs.PieceMakes.{cause_in}
 use Rattle.lane_files.specs.declared.refusal.FileError.{FileError}

@@ -1,11 +1,11 @@
 -- What a lane does for one piece.
 use Rattle.std.specs.Prelude.{ℕ, ◌==◌, ◌++◌, ◌+◌, ◌≤◌, Bool, true, cond, List, [], ◌∷◌, ◌≡◌}
-use Rattle.plain_state.specs.declared.slot.SlotId.{SlotId}
-use Rattle.counted_handles.specs.Handles.{Handle}
-use Rattle.acquire_retire.specs.Seats.{SeatState}
+use Rattle.control_word.specs.plain_state.declared.slot.SlotId.{SlotId}
+use Rattle.control_word.specs.counted_handles.Handles.{Handle}
+use Rattle.control_word.specs.acquire_retire.Seats.{SeatState}
 use Rattle.weak_intern.specs.Knowing.{KnowsRecord}
-use Rattle.cdrc_text.specs.Text.{slots_of_word}
-use Rattle.words_law.specs.Views.{View}
+use Rattle.words_protocol.specs.cdrc_text.Text.{slots_of_word}
+use Rattle.words_protocol.specs.words_law.Views.{View}
 use Rattle.lane_files.specs.Passed.{Takes, UsesInterns}
 use Rattle.lane_files.specs.Ready.{Owns}
 use Rattle.lane_files.specs.Scans.{scans_of}

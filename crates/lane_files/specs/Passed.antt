@@ -1,21 +1,21 @@
 -- What a seat pushed and popped between two of its views, as words.
 use Rattle.std.specs.Prelude.{◌≡◌, ℕ, ◌+◌, List, [], ◌∷◌, ◌++◌, Result, Ok, Err, length, map}
-use Rattle.cdrc_text.specs.Fold.{times}
-use Rattle.cdrc_text.specs.Tally.{count_of, total_of}
-use Rattle.plain_state.specs.declared.slot.SlotId.{SlotId}
-use Rattle.domain_rule.specs.Views.{object_in}
-use Rattle.acquire_retire.specs.Seats.{SeatState}
-use Rattle.queue_law.specs.declared.view.Item.{Item}
-use Rattle.queue_law.specs.declared.view.Taken.{Taken}
-use Rattle.queue_law.specs.declared.view.View.{View as QueueView}
-use Rattle.directory_law.specs.declared.view.Ran.{Ran}
-use Rattle.directory_law.specs.declared.view.View.{View as DirectoryView}
-use Rattle.directory_law.specs.Bytes.{text_bytes}
-use Rattle.directory_law.specs.Payloads.{IsText, Text}
-use Rattle.directory_law.specs.Views.{In}
+use Rattle.words_protocol.specs.cdrc_text.Fold.{times}
+use Rattle.words_protocol.specs.cdrc_text.Tally.{count_of, total_of}
+use Rattle.control_word.specs.plain_state.declared.slot.SlotId.{SlotId}
+use Rattle.control_word.specs.domain_rule.Views.{object_in}
+use Rattle.control_word.specs.acquire_retire.Seats.{SeatState}
+use Rattle.words_protocol.specs.queue_law.declared.view.Item.{Item}
+use Rattle.words_protocol.specs.queue_law.declared.view.Taken.{Taken}
+use Rattle.words_protocol.specs.queue_law.declared.view.View.{View as QueueView}
+use Rattle.words_protocol.specs.directory_law.declared.view.Ran.{Ran}
+use Rattle.words_protocol.specs.directory_law.declared.view.View.{View as DirectoryView}
+use Rattle.words_protocol.specs.directory_law.Bytes.{text_bytes}
+use Rattle.words_protocol.specs.directory_law.Payloads.{IsText, Text}
+use Rattle.words_protocol.specs.directory_law.Views.{In}
 use Rattle.hand_queues.specs.Pushes.{deeds_of}
-use Rattle.words_law.specs.Known.{ForgetsNothing, KnowsTexts}
-use Rattle.words_law.specs.Views.{View}
+use Rattle.words_protocol.specs.words_law.Known.{ForgetsNothing, KnowsTexts}
+use Rattle.words_protocol.specs.words_law.Views.{View}
 
 -- the view tells these words of the items, in order
 abbrev pub KnowsWords : DirectoryView → List Item → List (List ℕ) → Type 0

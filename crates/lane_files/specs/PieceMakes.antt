@@ -1,11 +1,11 @@
 -- What is told of makes where a piece isn't counted.
 use Rattle.std.specs.Prelude.{ℕ, ◌+◌, ◌<◌, ◌≤◌, Option, Some, None}
-use Rattle.core_events.specs.declared.view.CoreView.{CoreView}
-use Rattle.claim_law.specs.Claims.{makes_given}
-use Rattle.acquire_retire.specs.Domains.{DomainState}
-use Rattle.slot_store.specs.Calls.{HasNoMake}
-use Rattle.slot_store.specs.declared.making.MakeError.{MakeError}
-use Rattle.slot_store.specs.declared.making.MakeError.TheVariants as unmade
+use Rattle.control_word.specs.core_events.declared.view.CoreView.{CoreView}
+use Rattle.hand_queues.specs.claim_law.Claims.{makes_given}
+use Rattle.control_word.specs.acquire_retire.Domains.{DomainState}
+use Rattle.hand_queues.specs.slot_store.Calls.{HasNoMake}
+use Rattle.hand_queues.specs.slot_store.declared.making.MakeError.{MakeError}
+use Rattle.hand_queues.specs.slot_store.declared.making.MakeError.TheVariants as unmade
 use Rattle.words_protocol.specs.declared.law.WordsLaw.{WordsLaw}
 use Rattle.lane_files.specs.declared.refusal.LaneError.TheVariants as untaken
 use Rattle.lane_files.specs.declared.refusal.PieceError.{PieceError}

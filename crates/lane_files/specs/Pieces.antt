@@ -1,18 +1,18 @@
 -- What a call does for one piece of a text, and why it doesn't.
 use Rattle.std.specs.Prelude.{◌≡◌, ℕ, Bool, false, List, [], ◌∷◌, Result, Ok, Err, cond}
-use Rattle.plain_state.specs.declared.slot.SlotId.{SlotId}
-use Rattle.acquire_retire.specs.Domains.{DomainState}
-use Rattle.acquire_retire.specs.Seats.{SeatState}
+use Rattle.control_word.specs.plain_state.declared.slot.SlotId.{SlotId}
+use Rattle.control_word.specs.acquire_retire.Domains.{DomainState}
+use Rattle.control_word.specs.acquire_retire.Seats.{SeatState}
 use Rattle.control_word.specs.Resting.{IsSpent}
-use Rattle.directory_law.specs.Cells.{Area}
-use Rattle.directory_calls.specs.Directories.{HasNoRecord, area_of}
-use Rattle.directory_calls.specs.Steps.{AtStep}
-use Rattle.record_making.specs.Making.{MissesWithin}
-use Rattle.slot_store.specs.Calls.{HasNoMake}
-use Rattle.slot_store.specs.declared.making.MakeError.{MakeError}
-use Rattle.slot_store.specs.declared.making.MakeError.TheVariants as unmade
+use Rattle.words_protocol.specs.directory_law.Cells.{Area}
+use Rattle.weak_intern.specs.directory_calls.Directories.{HasNoRecord, area_of}
+use Rattle.weak_intern.specs.directory_calls.Steps.{AtStep}
+use Rattle.weak_intern.specs.record_making.Making.{MissesWithin}
+use Rattle.hand_queues.specs.slot_store.Calls.{HasNoMake}
+use Rattle.hand_queues.specs.slot_store.declared.making.MakeError.{MakeError}
+use Rattle.hand_queues.specs.slot_store.declared.making.MakeError.TheVariants as unmade
 use Rattle.weak_intern.specs.Interning.{Interns}
-use Rattle.words_law.specs.Views.{View}
+use Rattle.words_protocol.specs.words_law.Views.{View}
 use Rattle.words_protocol.specs.declared.law.WordsLaw.{WordsLaw}
 use Rattle.lane_files.specs.declared.refusal.PieceError.{PieceError}
 use Rattle.lane_files.specs.declared.refusal.PieceError.TheVariants as refused

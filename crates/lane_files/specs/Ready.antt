@@ -1,22 +1,22 @@
 -- What a seat needs to count words, and what a call leaves of it.
 use Rattle.std.specs.Prelude.{◌≡◌, ◌≤◌, ℕ, List}
-use Rattle.plain_state.specs.declared.slot.SlotId.{SlotId}
-use Rattle.plain_state.specs.Lists.{times}
-use Rattle.core_events.specs.Steps.{HasRoom}
-use Rattle.core_events.specs.Views.{Holds}
-use Rattle.domain_rule.specs.Views.{object_in}
-use Rattle.acquire_retire.specs.Domains.{DomainState}
-use Rattle.acquire_retire.specs.Seats.{SeatState}
+use Rattle.control_word.specs.plain_state.declared.slot.SlotId.{SlotId}
+use Rattle.control_word.specs.plain_state.Lists.{times}
+use Rattle.control_word.specs.core_events.Steps.{HasRoom}
+use Rattle.control_word.specs.core_events.Views.{Holds}
+use Rattle.control_word.specs.domain_rule.Views.{object_in}
+use Rattle.control_word.specs.acquire_retire.Domains.{DomainState}
+use Rattle.control_word.specs.acquire_retire.Seats.{SeatState}
 use Rattle.control_word.specs.Resting.{IsAtRest}
-use Rattle.directory_law.specs.Views.{In}
-use Rattle.queue_law.specs.Lists.{taken_items}
-use Rattle.part_calls.specs.Parts.{as_part}
-use Rattle.directory_calls.specs.Directories.{HasQuota, IsOver}
-use Rattle.directory_calls.specs.Steps.{aside}
-use Rattle.text_reading.specs.Reading.{HasTwoFree}
+use Rattle.words_protocol.specs.directory_law.Views.{In}
+use Rattle.words_protocol.specs.queue_law.Lists.{taken_items}
+use Rattle.hand_queues.specs.part_calls.Parts.{as_part}
+use Rattle.weak_intern.specs.directory_calls.Directories.{HasQuota, IsOver}
+use Rattle.weak_intern.specs.directory_calls.Steps.{aside}
+use Rattle.weak_intern.specs.text_reading.Reading.{HasTwoFree}
 use Rattle.hand_queues.specs.Queues.{IsAnyOf}
-use Rattle.linked_queue.specs.Queues.{IsAttached}
-use Rattle.words_law.specs.Views.{View}
+use Rattle.hand_queues.specs.linked_queue.Queues.{IsAttached}
+use Rattle.words_protocol.specs.words_law.Views.{View}
 use Rattle.words_protocol.specs.declared.law.WordsLaw.{WordsLaw}
 pub use Rattle.lane_files.specs.declared.shared.Shared.{Shared}
 use Rattle.lane_files.specs.Scans.{scans_of}

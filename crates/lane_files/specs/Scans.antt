@@ -1,11 +1,11 @@
 -- How many whole scans a seat has made.
 use Rattle.std.specs.Prelude.{ℕ, ◌≤◌, Bool, true, false, cond, List, length}
 use Rattle.std.specs.List.{sum_by}
-use Rattle.core_events.specs.declared.outcome.Outcome.{Outcome}
-use Rattle.core_events.specs.declared.outcome.Outcome.TheVariants as outcome
-use Rattle.core_events.specs.declared.view.Move.{Move}
-use Rattle.acquire_retire.specs.Seats.{SeatState}
-use Rattle.words_law.specs.Views.{View}
+use Rattle.control_word.specs.core_events.declared.outcome.Outcome.{Outcome}
+use Rattle.control_word.specs.core_events.declared.outcome.Outcome.TheVariants as outcome
+use Rattle.control_word.specs.core_events.declared.view.Move.{Move}
+use Rattle.control_word.specs.acquire_retire.Seats.{SeatState}
+use Rattle.words_protocol.specs.words_law.Views.{View}
 
 -- a whole scan ends with the word that splits the retired entries
 abbrev pub ends_scan : Outcome → Bool

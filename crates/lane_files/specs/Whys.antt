@@ -1,19 +1,19 @@
 -- Why nothing was pushed or popped.
 use Rattle.std.specs.Prelude.{◌≡◌, ◌⊎◌, ℕ, None, List, [], ◌∷◌}
-use Rattle.plain_state.specs.declared.slot.SlotId.{SlotId}
-use Rattle.acquire_retire.specs.Calls.{IsSameView, same_view}
-use Rattle.acquire_retire.specs.Domains.{DomainState}
-use Rattle.acquire_retire.specs.Seats.{SeatState}
+use Rattle.control_word.specs.plain_state.declared.slot.SlotId.{SlotId}
+use Rattle.control_word.specs.acquire_retire.Calls.{IsSameView, same_view}
+use Rattle.control_word.specs.acquire_retire.Domains.{DomainState}
+use Rattle.control_word.specs.acquire_retire.Seats.{SeatState}
 use Rattle.control_word.specs.Calls.{GainsStrong}
 use Rattle.control_word.specs.Resting.{IsSpent}
-use Rattle.cdrc_text.specs.Tally.{count_of}
-use Rattle.part_calls.specs.Parts.{as_part, seen_by}
-use Rattle.queue_law.specs.declared.view.View.{View as QueueView}
-use Rattle.queue_protocol.specs.declared.law.QueueLaw.{QueueLaw}
-use Rattle.linked_queue.specs.Waits.{IsWhyNeverPushed, PopsAtLast}
-use Rattle.slot_store.specs.declared.making.MakeError.{MakeError}
-use Rattle.slot_store.specs.declared.making.MakeError.TheVariants as unmade
-use Rattle.words_law.specs.Views.{View}
+use Rattle.words_protocol.specs.cdrc_text.Tally.{count_of}
+use Rattle.hand_queues.specs.part_calls.Parts.{as_part, seen_by}
+use Rattle.words_protocol.specs.queue_law.declared.view.View.{View as QueueView}
+use Rattle.words_protocol.specs.queue_protocol.declared.law.QueueLaw.{QueueLaw}
+use Rattle.hand_queues.specs.linked_queue.Waits.{IsWhyNeverPushed, PopsAtLast}
+use Rattle.hand_queues.specs.slot_store.declared.making.MakeError.{MakeError}
+use Rattle.hand_queues.specs.slot_store.declared.making.MakeError.TheVariants as unmade
+use Rattle.words_protocol.specs.words_law.Views.{View}
 use Rattle.words_protocol.specs.declared.law.WordsLaw.{WordsLaw}
 use Rattle.lane_files.specs.declared.refusal.LaneError.{LaneError}
 use Rattle.lane_files.specs.declared.refusal.LaneError.TheVariants as refused

@@ -1,10 +1,10 @@
 //! A copy of a reference to a record goes on the queue.
 ghost use Rattle.std.specs.Prelude.{◌≤◌, ◌<◌, ◌+◌, ◌∷◌, [], IfErr, OnErr, OnOk, Some};
-ghost use Rattle.plain_state.specs.Lists.{times};
-ghost use Rattle.directory_law.specs.Bytes.{text_bytes};
-ghost use Rattle.directory_law.specs.Payloads.{Text};
+ghost use Rattle.control_word.specs.plain_state.Lists.{times};
+ghost use Rattle.words_protocol.specs.directory_law.Bytes.{text_bytes};
+ghost use Rattle.words_protocol.specs.directory_law.Payloads.{Text};
 ghost use Rattle.weak_intern.specs.Knowing.{Knows};
-ghost use Rattle.words_law.specs.Views.{View};
+ghost use Rattle.words_protocol.specs.words_law.Views.{View};
 ghost use Rattle.lane_files.specs.Passed.{Counts, UsesInterns};
 ghost use Rattle.lane_files.specs.PieceMakes.{LacksMake};
 ghost use Rattle.lane_files.specs.Ready.{IsReady, Owns};
@@ -12,16 +12,10 @@ ghost use Rattle.lane_files.specs.Whys.{IsWhyNotCopied};
 
 use crate::offering::offer;
 use crate::shared::Shared;
-use acquire_retire::{Domain, Seat};
-use control_word::{copy_strong, drop_strong};
-use counted_handles::Strong;
-use directory_protocol::RecordKind;
-use plain_state::PayloadKind;
-use protocol_pairs::PairKind;
-use queue_protocol::NodeKind;
-use slot_store::MakeError;
+use control_word::{Domain, PayloadKind, Seat, Strong, copy_strong, drop_strong};
+use hand_queues::MakeError;
 use std::sync::Wait;
-use words_protocol::WordsLaw;
+use words_protocol::{NodeKind, PairKind, RecordKind, WordsLaw};
 
 /// Pushes one reference more to a record whose text the seat knows, and keeps its own. It is refused as `offer` is,
 /// and besides with `AddsSpent` where the seat has no add left for that reference. Then it has pushed nothing. One

@@ -1,11 +1,11 @@
 //! What a lane does for a file.
 ghost use Rattle.std.specs.Prelude.{◌≡◌, ◌^◌, ◌<◌, ◌≤◌, ◌+◌, IfErr, OnOk, length, true};
-ghost use Rattle.cdrc_text.specs.Tally.{total_of};
-ghost use Rattle.deleter.specs.Weighing.{Weighs};
-ghost use Rattle.directory_calls.specs.Directories.{CanCount};
-ghost use Rattle.plain_state.specs.declared.slot.SlotId.{SlotId};
-ghost use Rattle.plain_state.specs.Lists.{times};
-ghost use Rattle.cdrc_text.specs.Text.{slots_of_word};
+ghost use Rattle.words_protocol.specs.cdrc_text.Tally.{total_of};
+ghost use Rattle.hand_queues.specs.deleter.Weighing.{Weighs};
+ghost use Rattle.weak_intern.specs.directory_calls.Directories.{CanCount};
+ghost use Rattle.control_word.specs.plain_state.declared.slot.SlotId.{SlotId};
+ghost use Rattle.control_word.specs.plain_state.Lists.{times};
+ghost use Rattle.words_protocol.specs.cdrc_text.Text.{slots_of_word};
 ghost use Rattle.lane_files.specs.PieceMakes.{LacksMake};
 ghost use Rattle.lane_files.specs.Ready.{IsReady, Owns};
 ghost use Rattle.lane_files.specs.Counting.{CountsFile, IsWhyStopped, StopsInFile};
@@ -19,15 +19,11 @@ use crate::lane::Lane;
 use crate::refusal::FileError;
 use crate::tidying::tidy;
 use crate::{Shared, count_piece};
-use acquire_retire::{Domain, Seat};
-use deleter::Deleter;
-use directory_protocol::RecordKind;
+use control_word::{Domain, PayloadKind, Seat};
+use hand_queues::Deleter;
 use lane_gate::Gate;
-use plain_state::PayloadKind;
-use protocol_pairs::PairKind;
-use queue_protocol::NodeKind;
 use std::sync::Wait;
-use words_protocol::WordsLaw;
+use words_protocol::{NodeKind, PairKind, RecordKind, WordsLaw};
 
 /// Counts the pieces of a file, each of 1 to 4,096 bytes, beside other lanes: for each it passes the gate, interns the
 /// piece, pushes a reference to its record, pops one and counts its word, and destroys some of what ended. It keeps one

@@ -1,6 +1,6 @@
 //! The items that are left are popped, and their words counted.
 ghost use Rattle.std.specs.Prelude.{◌≡◌, ◌^◌, ◌+◌, ◌≤◌, ◌<◌, [], IfErr, IfOk};
-ghost use Rattle.cdrc_text.specs.Tally.{total_of};
+ghost use Rattle.words_protocol.specs.cdrc_text.Tally.{total_of};
 ghost use Rattle.lane_files.specs.Passed.{Takes, UsesInterns};
 ghost use Rattle.lane_files.specs.Draining.{IsWhyNotDrained, StopsAtNone};
 ghost use Rattle.lane_files.specs.Ready.{IsReady, Owns};
@@ -8,14 +8,9 @@ ghost use Rattle.lane_files.specs.Ready.{IsReady, Owns};
 use crate::refusal::LaneError;
 use crate::shared::Shared;
 use crate::taking::take_one;
-use acquire_retire::{Domain, Seat};
-use cdrc_text::Tally;
-use directory_protocol::RecordKind;
-use plain_state::PayloadKind;
-use protocol_pairs::PairKind;
-use queue_protocol::NodeKind;
+use control_word::{Domain, PayloadKind, Seat};
 use std::sync::Wait;
-use words_protocol::WordsLaw;
+use words_protocol::{NodeKind, PairKind, RecordKind, Tally, WordsLaw};
 
 /// Pops items until it finds none linked, `most` at most, and counts their words. The answer is how many they were. A
 /// refusal is that of one `take_one`, after some that counted. It makes one `take_one` more than the answer, or `most`.

@@ -1,7 +1,7 @@
 //! How a lane draws the files that it counts.
 ghost use Rattle.std.specs.Prelude.{◌≡◌, ◌^◌, ◌<◌, ◌≤◌, ◌+◌, [], ◌∷◌, IfErr, OnOk, length};
-ghost use Rattle.cdrc_text.specs.Tally.{total_of};
-ghost use Rattle.deleter.specs.Weighing.{Weighs};
+ghost use Rattle.words_protocol.specs.cdrc_text.Tally.{total_of};
+ghost use Rattle.hand_queues.specs.deleter.Weighing.{Weighs};
 ghost use Rattle.lane_files.specs.Ready.{IsReady};
 ghost use Rattle.lane_files.specs.Counting.{StopsInFile};
 ghost use Rattle.lane_files.specs.Lanes.{CountsTickets, HasGrants, RunsLane, StopsLane};
@@ -12,16 +12,12 @@ use crate::counting::count_file;
 use crate::lane::Lane;
 use crate::refusal::{FileError, LaneStop};
 use crate::work::Work;
-use acquire_retire::{Domain, Seat};
-use deleter::Deleter;
-use directory_protocol::RecordKind;
+use control_word::{Domain, PayloadKind, Seat};
+use hand_queues::Deleter;
 use lane_gate::Gate;
-use plain_state::PayloadKind;
-use protocol_pairs::{PairKind, Right};
-use queue_protocol::NodeKind;
 use std::sync::Wait;
 use weak_intern::draw;
-use words_protocol::WordsLaw;
+use words_protocol::{NodeKind, PairKind, RecordKind, Right, WordsLaw};
 
 /// Draws tickets and counts their files, until it draws one that stands for no file. Of each file in the last round it
 /// keeps one reference to the record of each word; those of earlier rounds it gives up when their file ends.

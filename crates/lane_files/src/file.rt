@@ -1,11 +1,11 @@
 //! A file, as its lane reads it.
 ghost use Rattle.std.specs.Prelude.{◌≡◌, ◌<◌, ◌≤◌, [], IfErr, IfOk, length, slice_index_or};
-ghost use Rattle.cdrc_text.specs.Pieces.{pieces_of};
-ghost use Rattle.cdrc_text.specs.Refused.{IsCauseOf};
+ghost use Rattle.words_protocol.specs.cdrc_text.Pieces.{pieces_of};
+ghost use Rattle.words_protocol.specs.cdrc_text.Refused.{IsCauseOf};
 ghost use Rattle.lane_files.specs.Files.{HasPieces, pieces_in};
 
-use cdrc_text::{Pieces, PiecesError, pieces};
 use std::alloc::Global;
+use words_protocol::{Pieces, PiecesError, pieces};
 
 /// The bytes of a file, and where its pieces lie.
 #[derive(Drop)]

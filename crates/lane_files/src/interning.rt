@@ -1,28 +1,22 @@
 //! The record of a piece.
 ghost use Rattle.std.specs.Prelude.{◌<◌, ◌≤◌, ◌+◌, [], true, IfErr, IfOk, length};
 ghost use Rattle.std.specs.Int.{div_ceil};
-ghost use Rattle.plain_state.specs.Lists.{times};
-ghost use Rattle.directory_calls.specs.Directories.{CanCount};
-ghost use Rattle.directory_calls.specs.Steps.{handle_by, with_found};
+ghost use Rattle.control_word.specs.plain_state.Lists.{times};
+ghost use Rattle.weak_intern.specs.directory_calls.Directories.{CanCount};
+ghost use Rattle.weak_intern.specs.directory_calls.Steps.{handle_by, with_found};
 ghost use Rattle.weak_intern.specs.Interning.{interned_by};
 ghost use Rattle.weak_intern.specs.Knowing.{KnowsRecord};
-ghost use Rattle.words_law.specs.Views.{View};
+ghost use Rattle.words_protocol.specs.words_law.Views.{View};
 ghost use Rattle.lane_files.specs.Passed.{Counts, UsesInterns};
 ghost use Rattle.lane_files.specs.Pieces.{InternsFirst, IsWhyNotInterned};
 ghost use Rattle.lane_files.specs.Ready.{IsReady, Owns};
 
 use crate::shared::Shared;
-use acquire_retire::{Domain, Seat};
-use counted_handles::Strong;
-use directory_protocol::RecordKind;
-use plain_state::PayloadKind;
-use protocol_pairs::{PairKind, Right};
-use queue_protocol::NodeKind;
-use slot_store::MakeError;
+use control_word::{Domain, PayloadKind, Seat, Strong};
+use hand_queues::MakeError;
 use std::sync::Wait;
-use text_reading::pairs_have_pieces;
-use weak_intern::intern;
-use words_protocol::WordsLaw;
+use weak_intern::{intern, pairs_have_pieces};
+use words_protocol::{NodeKind, PairKind, RecordKind, Right, WordsLaw};
 
 /// A strong reference to the live record of a piece, which it makes where the piece has none. It is refused as an
 /// intern is, and uses one intern where it isn't. It pushes and pops nothing. It may wait for other threads.

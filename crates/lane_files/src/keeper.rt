@@ -1,19 +1,16 @@
 //! The references that a lane keeps.
 ghost use Rattle.std.specs.Prelude.{◌≡◌, ◌==◌, ◌<◌, ◌≤◌, [], OnErr, OnOk, cond, drop, false, take, true, vec_capacity, vec_len};
-ghost use Rattle.plain_state.specs.declared.slot.SlotId.{SlotId};
-ghost use Rattle.plain_state.specs.Lists.{times};
-ghost use Rattle.core_events.specs.Views.{without};
+ghost use Rattle.control_word.specs.plain_state.declared.slot.SlotId.{SlotId};
+ghost use Rattle.control_word.specs.plain_state.Lists.{times};
+ghost use Rattle.control_word.specs.core_events.Views.{without};
 ghost use Rattle.lane_files.specs.Ready.{IsReady, Owns};
 ghost use Rattle.lane_files.specs.Keeping.{GivesUp, IsSameKeeper, KeepsOne, has, slots_of};
 
 use crate::Shared;
-use acquire_retire::{Domain, Seat};
-use control_word::drop_strong;
-use counted_handles::Strong;
-use out_of_memory::OutOfMemory;
+use control_word::{Domain, Seat, Strong, drop_strong};
 use std::alloc::Global;
 use std::collections::HashSet;
-use words_protocol::WordsLaw;
+use words_protocol::{OutOfMemory, WordsLaw};
 
 /// The references that a lane keeps, and the slots of those that it keeps for the present file.
 #[derive(Drop)]

@@ -1,10 +1,10 @@
 //! What a lane has beside its seat.
 ghost use Rattle.std.specs.Prelude.{◌≡◌, [], ℕ, List};
-ghost use Rattle.cdrc_text.specs.Tally.{count_of, total_of};
+ghost use Rattle.words_protocol.specs.cdrc_text.Tally.{count_of, total_of};
 
 use crate::keeper::Keeper;
-use cdrc_text::Tally;
 use std::alloc::Global;
+use words_protocol::Tally;
 
 /// What a lane has beside its seat.
 #[derive(Drop)]

@@ -1,12 +1,12 @@
 //! Which makes are refused to lanes, and what a lane has done until then.
 ghost use Rattle.std.specs.Prelude.{◌≡◌, ◌≢◌, ◌<◌, [], Some};
-ghost use Rattle.plain_state.specs.declared.slot.SlotId.{SlotId};
-ghost use Rattle.plain_state.specs.Lists.{times};
-ghost use Rattle.acquire_retire.specs.Domains.{DomainState};
-ghost use Rattle.acquire_retire.specs.Seats.{SeatState};
-ghost use Rattle.claim_law.specs.Claims.{makes_given};
-ghost use Rattle.slot_store.specs.declared.making.MakeError.TheVariants as unmade;
-ghost use Rattle.words_law.specs.Views.{View};
+ghost use Rattle.control_word.specs.plain_state.declared.slot.SlotId.{SlotId};
+ghost use Rattle.control_word.specs.plain_state.Lists.{times};
+ghost use Rattle.control_word.specs.acquire_retire.Domains.{DomainState};
+ghost use Rattle.control_word.specs.acquire_retire.Seats.{SeatState};
+ghost use Rattle.hand_queues.specs.claim_law.Claims.{makes_given};
+ghost use Rattle.hand_queues.specs.slot_store.declared.making.MakeError.TheVariants as unmade;
+ghost use Rattle.words_protocol.specs.words_law.Views.{View};
 ghost use Rattle.words_protocol.specs.declared.law.WordsLaw.{WordsLaw};
 ghost use Rattle.lane_files.specs.declared.lane.Lane.{Lane};
 ghost use Rattle.lane_files.specs.declared.refusal.LaneStop.{LaneStop};
@@ -16,10 +16,8 @@ ghost use Rattle.lane_files.specs.Makes.{GrantsMakes, HasItsMakes, cause_of};
 ghost use Rattle.lane_files.specs.Owning.{OwnsNoNode};
 ghost use Rattle.lane_files.specs.Scans.{HasScanned};
 
-use directory_protocol::RecordKind;
-use plain_state::PayloadKind;
-use protocol_pairs::PairKind;
-use queue_protocol::NodeKind;
+use control_word::PayloadKind;
+use words_protocol::{NodeKind, PairKind, RecordKind};
 
 /// Where each ticket grants the makes for its file, no lane stops for want of a make.
 pub fn lanes_have_makes()

@@ -32,20 +32,22 @@ mod reading;
 mod refusal;
 mod shared;
 mod taking;
-#[cfg(test)]
-mod tests;
-#[cfg(test)]
-mod tests_pieces;
 mod tidying;
 mod work;
 
+pub use control_word::{Domain, OpenError, PayloadKind, Quota, Seat, Shape, open_granted};
 pub use copying::offer_copy;
 pub use counting::count_file;
 pub use draining::drain;
 pub use drawing::run_lane;
 pub use file::FileText;
+pub use hand_queues::{AnyQueue, Deleter, Form, HandQueue, MakeError};
 pub use keeper::Keeper;
 pub use lane::Lane;
+pub use lane_gate::{
+    FileFault, Files, Gate, HonestFiles, HonestSink, HostFiles, HostSink, Meet, MemFiles, MemSink,
+    Open, Sink, SinkFault,
+};
 pub use laws::{full_domains_lack_slots, lanes_have_makes};
 pub use offering::offer;
 pub use piece::count_piece;
@@ -53,4 +55,8 @@ pub use refusal::{FileError, LaneError, LaneStop, PieceError};
 pub use shared::Shared;
 pub use taking::take_one;
 pub use tidying::tidy;
+pub use weak_intern::{Directory, find, pairs_have_pieces};
+pub use words_protocol::{
+    DirectoryLaw, Left, MOST_SLOTS, NodeKind, OutOfMemory, PairKind, QueueLaw, RecordKind, WordsLaw,
+};
 pub use work::Work;

@@ -1,26 +1,21 @@
 //! A record goes on the queue.
 ghost use Rattle.std.specs.Prelude.{◌≡◌, ◌≤◌, ◌<◌, ◌+◌, List, ℕ, [], ◌∷◌, IfErr, OnErr, OnOk, Some};
-ghost use Rattle.plain_state.specs.Lists.{times};
-ghost use Rattle.core_events.specs.Views.{without};
-ghost use Rattle.directory_law.specs.Bytes.{text_bytes};
-ghost use Rattle.directory_law.specs.Payloads.{Text};
-ghost use Rattle.linked_queue.specs.Pushes.{UsesNone};
+ghost use Rattle.control_word.specs.plain_state.Lists.{times};
+ghost use Rattle.control_word.specs.core_events.Views.{without};
+ghost use Rattle.words_protocol.specs.directory_law.Bytes.{text_bytes};
+ghost use Rattle.words_protocol.specs.directory_law.Payloads.{Text};
+ghost use Rattle.hand_queues.specs.linked_queue.Pushes.{UsesNone};
 ghost use Rattle.weak_intern.specs.Knowing.{Knows};
-ghost use Rattle.words_law.specs.Views.{View};
+ghost use Rattle.words_protocol.specs.words_law.Views.{View};
 ghost use Rattle.lane_files.specs.Passed.{Counts, UsesInterns};
 ghost use Rattle.lane_files.specs.Ready.{IsReady, Owns};
 ghost use Rattle.lane_files.specs.Whys.{IsWhyNotOffered};
 
 use crate::shared::Shared;
-use acquire_retire::{Domain, Seat};
-use counted_handles::Strong;
-use directory_protocol::RecordKind;
+use control_word::{Domain, PayloadKind, Seat, Strong};
 use hand_queues::{HandQueue, PushRefused};
-use plain_state::PayloadKind;
-use protocol_pairs::{Left, PairKind};
-use queue_protocol::NodeKind;
 use std::sync::Wait;
-use words_protocol::WordsLaw;
+use words_protocol::{Left, NodeKind, PairKind, RecordKind, WordsLaw};
 
 /// Pushes a record whose text the seat knows, and gives the seat's reference to it. It is refused as a push is:
 /// `MakesSpent` where the seat has no make left, `Full` where each slot of the domain was found taken, `AddsSpent`

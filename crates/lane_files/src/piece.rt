@@ -1,14 +1,14 @@
 //! What a lane does for one piece of its text.
 ghost use Rattle.std.specs.Prelude.{◌≡◌, ◌^◌, ◌<◌, ◌≤◌, ◌+◌, [], ◌∷◌, Bool, true, IfErr, IfOk, OnOk, cond, length};
 ghost use Rattle.std.specs.Int.{div_ceil};
-ghost use Rattle.plain_state.specs.Lists.{times};
-ghost use Rattle.cdrc_text.specs.Tally.{total_of};
-ghost use Rattle.directory_calls.specs.Directories.{CanCount};
-ghost use Rattle.directory_calls.specs.Steps.{handle_by, with_found};
-ghost use Rattle.directory_law.specs.Bytes.{text_bytes};
-ghost use Rattle.directory_law.specs.Payloads.{Text};
+ghost use Rattle.control_word.specs.plain_state.Lists.{times};
+ghost use Rattle.words_protocol.specs.cdrc_text.Tally.{total_of};
+ghost use Rattle.weak_intern.specs.directory_calls.Directories.{CanCount};
+ghost use Rattle.weak_intern.specs.directory_calls.Steps.{handle_by, with_found};
+ghost use Rattle.words_protocol.specs.directory_law.Bytes.{text_bytes};
+ghost use Rattle.words_protocol.specs.directory_law.Payloads.{Text};
 ghost use Rattle.weak_intern.specs.Knowing.{Knows, KnowsRecord};
-ghost use Rattle.words_law.specs.Views.{View};
+ghost use Rattle.words_protocol.specs.words_law.Views.{View};
 ghost use Rattle.lane_files.specs.Passed.{Takes, UsesInterns};
 ghost use Rattle.lane_files.specs.PieceMakes.{LacksMake, cause_in};
 ghost use Rattle.lane_files.specs.Pieces.{CountsPiece, IsWhyNotCounted, IsWhyNotPassed, PassesOn, used_by};
@@ -19,16 +19,9 @@ use crate::interning::intern_piece;
 use crate::refusal::PieceError;
 use crate::shared::Shared;
 use crate::taking::take_one;
-use acquire_retire::{Domain, Seat};
-use cdrc_text::Tally;
-use control_word::drop_strong;
-use counted_handles::Strong;
-use directory_protocol::RecordKind;
-use plain_state::PayloadKind;
-use protocol_pairs::PairKind;
-use queue_protocol::NodeKind;
+use control_word::{Domain, PayloadKind, Seat, Strong, drop_strong};
 use std::sync::Wait;
-use words_protocol::WordsLaw;
+use words_protocol::{NodeKind, PairKind, RecordKind, Tally, WordsLaw};
 
 /// Counts a piece of 1 to 4,096 bytes beside others: it interns the piece, pushes one reference to its record, and pops
 /// an item, if one is linked, whose word, read into `room`, the tally counts once more. The answer is a reference to

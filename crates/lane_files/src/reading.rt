@@ -1,15 +1,15 @@
 //! The text of an item that was popped.
 ghost use Rattle.std.specs.Prelude.{◌≡◌, ◌<◌, ◌∷◌};
-ghost use Rattle.plain_state.specs.Lists.{times};
+ghost use Rattle.control_word.specs.plain_state.Lists.{times};
 ghost use Rattle.control_word.specs.Resting.{IsAtRest};
-ghost use Rattle.core_events.specs.Steps.{HasRoom};
-ghost use Rattle.domain_rule.specs.Views.{object_in};
-ghost use Rattle.directory_law.specs.Payloads.{IsHead};
-ghost use Rattle.text_reading.specs.Reading.{begun};
+ghost use Rattle.control_word.specs.core_events.Steps.{HasRoom};
+ghost use Rattle.control_word.specs.domain_rule.Views.{object_in};
+ghost use Rattle.words_protocol.specs.directory_law.Payloads.{IsHead};
+ghost use Rattle.weak_intern.specs.text_reading.Reading.{begun};
 ghost use Rattle.lane_files.specs.Passed.{begins};
 ghost use Rattle.lane_files.specs.Ready.{HasPoppedIn, Owns};
 
-use acquire_retire::{Domain, EventPlace, Seat, SlotId};
+use control_word::{Domain, EventPlace, Seat, SlotId};
 use words_protocol::{BeginRead, WordsLaw};
 
 /// Begins to read an item that the seat popped, in the life in which it owns it: its payload is that of a head. One

@@ -4,9 +4,9 @@ ghost use Rattle.lane_files.specs.declared.refusal.FileError.TheVariants as refu
 ghost use Rattle.lane_files.specs.declared.refusal.LaneError.TheVariants as missed;
 ghost use Rattle.lane_files.specs.declared.refusal.LaneStop.TheVariants as stopped;
 
-use counted_handles::Spent;
-use out_of_memory::OutOfMemory;
-use slot_store::MakeError;
+use control_word::Spent;
+use hand_queues::MakeError;
+use words_protocol::OutOfMemory;
 
 /// Why a lane goes no further.
 #[derive(Clone, Copy, PartialEq, Eq, Debug, Drop)]

@@ -1,6 +1,6 @@
 //! What lanes share beside the domain.
-use directory_calls::Directory;
 use hand_queues::AnyQueue;
+use weak_intern::Directory;
 
 /// The queue and the directory of one domain. It gives no right by itself: a call asks that they are those of the
 /// domain's law.

@@ -1,11 +1,11 @@
 //! An item is popped, and its word counted.
 ghost use Rattle.std.specs.Prelude.{◌≡◌, ◌^◌, ◌<◌, false, ℕ, List, [], Ok, IfErr, IfOk, cond};
-ghost use Rattle.plain_state.specs.Lists.{times};
-ghost use Rattle.cdrc_text.specs.Tally.{total_of};
+ghost use Rattle.control_word.specs.plain_state.Lists.{times};
+ghost use Rattle.words_protocol.specs.cdrc_text.Tally.{total_of};
 ghost use Rattle.control_word.specs.Resting.{IsAtRest};
-ghost use Rattle.core_events.specs.Steps.{HasRoom};
-ghost use Rattle.core_events.specs.Views.{without};
-ghost use Rattle.text_reading.specs.Reading.{HasTwoFree};
+ghost use Rattle.control_word.specs.core_events.Steps.{HasRoom};
+ghost use Rattle.control_word.specs.core_events.Views.{without};
+ghost use Rattle.weak_intern.specs.text_reading.Reading.{HasTwoFree};
 ghost use Rattle.lane_files.specs.Passed.{OnlyReads, ReadsWord, Takes, TalliesIf, UsesInterns};
 ghost use Rattle.lane_files.specs.Ready.{HasPoppedIn, IsReady, Owns};
 ghost use Rattle.lane_files.specs.Whys.{FindsNoItem, IsWhyNotTaken};
@@ -13,20 +13,11 @@ ghost use Rattle.lane_files.specs.Whys.{FindsNoItem, IsWhyNotTaken};
 use crate::reading::begin_read;
 use crate::refusal::LaneError;
 use crate::shared::Shared;
-use acquire_retire::{Domain, Seat, SlotId};
-use cdrc_text::Tally;
-use control_word::drop_strong;
-use counted_handles::{Spent, Strong};
-use directory_protocol::RecordKind;
-use hand_queues::HandQueue;
-use out_of_memory::OutOfMemory;
-use plain_state::PayloadKind;
-use protocol_pairs::{Left, PairKind, Right};
-use queue_protocol::NodeKind;
-use slot_store::MakeError;
+use control_word::{Domain, PayloadKind, Seat, SlotId, Spent, Strong, drop_strong};
+use hand_queues::{HandQueue, MakeError};
 use std::sync::Wait;
-use text_reading::read_text;
-use words_protocol::WordsLaw;
+use weak_intern::read_text;
+use words_protocol::{Left, NodeKind, OutOfMemory, PairKind, RecordKind, Right, Tally, WordsLaw};
 
 /// Pops an item, if one is linked, and counts its word, which it reads into `room`. True exactly where it popped one;
 /// false only where nothing was linked behind the head's node at a step of the call. `Refused` is `AddsSpent`, and

@@ -1,19 +1,13 @@
 //! How a lane destroys what ended.
 ghost use Rattle.std.specs.Prelude.{◌≡◌, ◌≤◌, ◌+◌};
-ghost use Rattle.deleter.specs.Weighing.{Weighs};
+ghost use Rattle.hand_queues.specs.deleter.Weighing.{Weighs};
 ghost use Rattle.lane_files.specs.Ready.{IsReady, Owns};
 ghost use Rattle.lane_files.specs.Scans.{scans_of};
 
 use crate::Shared;
-use acquire_retire::{Domain, Seat};
-use deleter::Deleter;
-use directory_protocol::RecordKind;
-use plain_state::PayloadKind;
-use protocol_pairs::PairKind;
-use queue_protocol::NodeKind;
-use retiring_stores::collect;
-use slot_store::reap;
-use words_protocol::WordsLaw;
+use control_word::{Domain, PayloadKind, Seat};
+use hand_queues::{Deleter, collect, reap};
+use words_protocol::{NodeKind, PairKind, RecordKind, WordsLaw};
 
 /// The most objects that a lane destroys after one piece.
 const MOST_REAPS: u32 = 4;

@@ -41,6 +41,3 @@ pub use meet::Meet;
 pub use mem_files::MemFiles;
 pub use mem_sink::MemSink;
 pub use sink::{Sink, SinkFault};
-
-#[cfg(test)]
-mod tests;

@@ -4,32 +4,32 @@ use Rattle.std.specs.Prelude.{slice_index_or}
 use Rattle.std.specs.List.{list_all}
 use Rattle.std.proofs.lemmas.Bool.{cases_eq, cases_lt}
 use Rattle.std.proofs.lemmas.List.{get_or_past, length-map}
-use Rattle.plain_state.specs.declared.slot.PlainSlot.{PlainSlot}
-use Rattle.plain_state.specs.declared.slot.SlotId.{SlotId}
-use Rattle.plain_state.specs.declared.slot.Stage.TheVariants.{Live}
-use Rattle.plain_state.specs.Lists.{times}
-use Rattle.plain_state.specs.References.{strong_refs}
-use Rattle.plain_state.specs.State.{Plain, PlainSeat, new_seat, seat_at, stage_at}
-use Rattle.plain_protocol.specs.Owns.{is_alone}
-use Rattle.core_events.specs.declared.shape.Shape.{Shape}
-use Rattle.core_events.specs.declared.view.CoreView.{CoreView}
-use Rattle.core_events.specs.Good.{SeatLaw}
-use Rattle.core_events.specs.Runs.{Core, view_at}
-use Rattle.core_events.specs.Shows.{show_seat, shows}
-use Rattle.core_events.specs.Views.{no_view, snapshots}
-use Rattle.core_events.specs.Shows.{filled}
-use Rattle.core_events.specs.declared.view.Phase.TheVariants as phase
-use Rattle.core_law.proofs.Kit.{one_same, times_cons}
-use Rattle.core_law.proofs.Parts.{sound_good}
-use Rattle.core_law.proofs.Bridge.{shown_past, shown_seat, shown_stage, shown_strong}
-use Rattle.acquire_retire.specs.Domains.{DomainState}
-use Rattle.acquire_retire.specs.Seats.{SeatState}
-use Rattle.acquire_retire.specs.Wholes.{known_core}
-use Rattle.control_word.specs.Resting.{IsAtRest}
+use Rattle.law_lesson.specs.plain_state.declared.slot.PlainSlot.{PlainSlot}
+use Rattle.law_lesson.specs.plain_state.declared.slot.SlotId.{SlotId}
+use Rattle.law_lesson.specs.plain_state.declared.slot.Stage.TheVariants.{Live}
+use Rattle.law_lesson.specs.plain_state.Lists.{times}
+use Rattle.law_lesson.specs.plain_state.References.{strong_refs}
+use Rattle.law_lesson.specs.plain_state.State.{Plain, PlainSeat, new_seat, seat_at, stage_at}
+use Rattle.law_lesson.specs.plain_protocol.Owns.{is_alone}
+use Rattle.domain_audit.specs.core_events.declared.shape.Shape.{Shape}
+use Rattle.domain_audit.specs.core_events.declared.view.CoreView.{CoreView}
+use Rattle.domain_audit.specs.core_events.Good.{SeatLaw}
+use Rattle.domain_audit.specs.core_events.Runs.{Core, view_at}
+use Rattle.domain_audit.specs.core_events.Shows.{show_seat, shows}
+use Rattle.domain_audit.specs.core_events.Views.{no_view, snapshots}
+use Rattle.domain_audit.specs.core_events.Shows.{filled}
+use Rattle.domain_audit.specs.core_events.declared.view.Phase.TheVariants as phase
+use Rattle.domain_audit.proofs.Below.core_law.Kit.{one_same, times_cons}
+use Rattle.domain_audit.proofs.Below.core_law.Parts.{sound_good}
+use Rattle.domain_audit.proofs.Below.core_law.Bridge.{shown_past, shown_seat, shown_stage, shown_strong}
+use Rattle.domain_audit.specs.acquire_retire.Domains.{DomainState}
+use Rattle.domain_audit.specs.acquire_retire.Seats.{SeatState}
+use Rattle.domain_audit.specs.acquire_retire.Wholes.{known_core}
+use Rattle.domain_audit.specs.control_word.Resting.{IsAtRest}
 use Rattle.domain_audit.specs.Audits.{KnowsLone}
-use Rattle.slot_store.proofs.Cycles.{live_counted}
-use Rattle.words_law.specs.Views.{View}
-use Rattle.words_protocol.specs.declared.law.WordsLaw.{WordsLaw}
+use Rattle.domain_audit.proofs.Below.slot_store.Cycles.{live_counted}
+use Rattle.words_rest.specs.words_law.Views.{View}
+use Rattle.lane_domain.specs.words_protocol.declared.law.WordsLaw.{WordsLaw}
 use Rattle.words_rest.specs.Rest.{IsQuiet, Rests}
 use Rattle.lane_reports.proofs.Still.{no_snapshot}
 

@@ -2,32 +2,32 @@
 use Rattle.std.proofs.Common.{◌≡◌, ℕ, zero, suc, List, [], ap, sym, ◌∙◌, subst, arith}
 use Rattle.std.specs.Prelude.{None, Some, slice_index}
 use Rattle.std.proofs.lemmas.List.{get_or_past}
-use Rattle.plain_state.specs.declared.act.EventPlace.TheVariants.{Cell}
-use Rattle.plain_state.specs.declared.slot.SlotId.{SlotId}
-use Rattle.plain_state.specs.Lists.{times}
-use Rattle.plain_state.specs.Lawful.{Lawful}
-use Rattle.plain_state.specs.Places.{content}
-use Rattle.plain_state.specs.State.{Plain}
-use Rattle.core_events.specs.declared.view.CoreView.{CoreView}
-use Rattle.core_events.specs.Shows.{shows}
-use Rattle.core_events.specs.Views.{snapshots}
-use Rattle.core_events.specs.Words.{cell_at, slot_in}
-use Rattle.core_law.proofs.Each.{length_each}
-use Rattle.acquire_retire.specs.Collecting.{rest_of}
-use Rattle.acquire_retire.specs.Domains.{DomainState}
-use Rattle.acquire_retire.specs.Seats.{SeatState}
-use Rattle.acquire_retire.specs.Wholes.{known_core}
-use Rattle.control_word.specs.Moves.{KnowsStill}
-use Rattle.control_word.specs.Resting.{IsAtRest}
+use Rattle.law_lesson.specs.plain_state.declared.act.EventPlace.TheVariants.{Cell}
+use Rattle.law_lesson.specs.plain_state.declared.slot.SlotId.{SlotId}
+use Rattle.law_lesson.specs.plain_state.Lists.{times}
+use Rattle.law_lesson.specs.plain_state.Lawful.{Lawful}
+use Rattle.law_lesson.specs.plain_state.Places.{content}
+use Rattle.law_lesson.specs.plain_state.State.{Plain}
+use Rattle.domain_audit.specs.core_events.declared.view.CoreView.{CoreView}
+use Rattle.domain_audit.specs.core_events.Shows.{shows}
+use Rattle.domain_audit.specs.core_events.Views.{snapshots}
+use Rattle.domain_audit.specs.core_events.Words.{cell_at, slot_in}
+use Rattle.domain_audit.proofs.Below.core_law.Each.{length_each}
+use Rattle.domain_audit.specs.acquire_retire.Collecting.{rest_of}
+use Rattle.domain_audit.specs.acquire_retire.Domains.{DomainState}
+use Rattle.domain_audit.specs.acquire_retire.Seats.{SeatState}
+use Rattle.domain_audit.specs.acquire_retire.Wholes.{known_core}
+use Rattle.domain_audit.specs.control_word.Moves.{KnowsStill}
+use Rattle.domain_audit.specs.control_word.Resting.{IsAtRest}
 use Rattle.domain_audit.specs.Audits.{IsWholeAudit, Stays}
 use Rattle.domain_audit.proofs.Learning.{knows_shown}
-use Rattle.domain_rule.specs.Views.{own_of}
-use Rattle.heap_audit.specs.declared.finding.Audit.{Audit}
-use Rattle.plain_audit.specs.Audits.{IsAudit}
-use Rattle.protected_loads.proofs.Telling.{holds_has}
-use Rattle.slot_store.specs.Reaping.{KnowsBoth}
-use Rattle.words_law.specs.Views.{View}
-use Rattle.words_protocol.specs.declared.law.WordsLaw.{WordsLaw}
+use Rattle.domain_audit.specs.domain_rule.Views.{own_of}
+use Rattle.words_rest.specs.heap_audit.declared.finding.Audit.{Audit}
+use Rattle.words_rest.specs.plain_audit.Audits.{IsAudit}
+use Rattle.domain_audit.proofs.Below.protected_loads.Telling.{holds_has}
+use Rattle.domain_audit.specs.slot_store.Reaping.{KnowsBoth}
+use Rattle.words_rest.specs.words_law.Views.{View}
+use Rattle.lane_domain.specs.words_protocol.declared.law.WordsLaw.{WordsLaw}
 use Rattle.lane_reports.specs.Audits.{IsAudited, KnowsOwned}
 use Rattle.lane_reports.specs.Learning.{HoldsNothing, LearnsLaw}
 use Rattle.lane_reports.specs.Reporting.{HasNothingDeferred}

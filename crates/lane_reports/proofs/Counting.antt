@@ -2,26 +2,26 @@
 use Rattle.std.proofs.Common.{◌≡◌, ℕ, List, [], ◌∷◌, ◌++◌, append-nil, refl, sym, ap, subst, ◌∙◌, arith}
 use Rattle.std.specs.Prelude.{length, map}
 use Rattle.std.proofs.lemmas.List.{map-append}
-use Rattle.core_events.specs.declared.view.LeftSeat.{LeftSeat}
-use Rattle.acquire_retire.specs.Seats.{SeatState}
-use Rattle.directory_law.specs.declared.view.Rope.{Rope}
-use Rattle.directory_law.specs.declared.view.View.{View as DirectoryView}
-use Rattle.directory_law.specs.Bytes.{text_bytes}
-use Rattle.directory_law.specs.Payloads.{Text}
-use Rattle.directory_law.specs.Views.{In}
-use Rattle.directory_calls.specs.Learning.{Learns}
-use Rattle.queue_law.specs.declared.view.Item.{Item}
-use Rattle.queue_law.specs.declared.view.Taken.{Taken}
-use Rattle.queue_law.specs.declared.view.View.{View as QueueView}
-use Rattle.queue_law.specs.Lists.{taken_items}
-use Rattle.words_law.specs.Known.{ForgetsNothing, KnowsMore, KnowsTexts}
-use Rattle.words_law.specs.Views.{View}
-use Rattle.words_law.proofs.Known.{knows_all_more, knows_both}
+use Rattle.domain_audit.specs.core_events.declared.view.LeftSeat.{LeftSeat}
+use Rattle.domain_audit.specs.acquire_retire.Seats.{SeatState}
+use Rattle.words_rest.specs.directory_law.declared.view.Rope.{Rope}
+use Rattle.words_rest.specs.directory_law.declared.view.View.{View as DirectoryView}
+use Rattle.words_rest.specs.directory_law.Bytes.{text_bytes}
+use Rattle.words_rest.specs.directory_law.Payloads.{Text}
+use Rattle.words_rest.specs.directory_law.Views.{In}
+use Rattle.lane_domain.specs.directory_calls.Learning.{Learns}
+use Rattle.words_rest.specs.queue_law.declared.view.Item.{Item}
+use Rattle.words_rest.specs.queue_law.declared.view.Taken.{Taken}
+use Rattle.words_rest.specs.queue_law.declared.view.View.{View as QueueView}
+use Rattle.words_rest.specs.queue_law.Lists.{taken_items}
+use Rattle.words_rest.specs.words_law.Known.{ForgetsNothing, KnowsMore, KnowsTexts}
+use Rattle.words_rest.specs.words_law.Views.{View}
+use Rattle.words_rest.proofs.Below.words_law.Known.{knows_all_more, knows_both}
 use Rattle.ticket_shares.specs.Tickets.{together}
-use Rattle.lane_files.specs.Passed.{KnowsWords, by_seat}
-use Rattle.lane_files.specs.declared.work.Work.{Work}
-use Rattle.lane_files.specs.Work.{words_of_all}
-use Rattle.counted_handles.specs.Handles.{Handle}
+use Rattle.lane_domain.specs.lane_files.Passed.{KnowsWords, by_seat}
+use Rattle.lane_domain.specs.lane_files.declared.work.Work.{Work}
+use Rattle.lane_domain.specs.lane_files.Work.{words_of_all}
+use Rattle.domain_audit.specs.counted_handles.Handles.{Handle}
 use Rattle.lane_reports.specs.declared.done.Done.{Done}
 use Rattle.lane_reports.specs.Deeds.{IsTallyOf}
 use Rattle.lane_reports.specs.Gathering.{DrewTickets, HasGathered, Tally, shares_of, words_popped}

@@ -1,41 +1,41 @@
 -- What a count of the references to a slot tells, of which a seat that is alone owns one.
 use Rattle.std.proofs.Common.{◌≡◌, ℕ, ◌+◌, ◌<◌, Bool, true, false, List, length, ap, sym, ◌∙◌, subst, refl, arith}
 use Rattle.std.specs.Prelude.{◌==◌, IsSome, Some, if◌then◌else◌}
-use Rattle.plain_state.specs.Fits.{AllFit}
-use Rattle.plain_state.specs.declared.slot.SlotId.{SlotId}
-use Rattle.plain_state.specs.Lists.{times}
-use Rattle.plain_state.specs.References.{strong_refs}
-use Rattle.plain_state.specs.State.{Plain, seat_at}
-use Rattle.counter_word.specs.Words.{value}
-use Rattle.core_events.specs.declared.act.Act.TheVariants as act
-use Rattle.core_events.specs.declared.outcome.Outcome.TheVariants as outcome
-use Rattle.core_events.specs.declared.view.CoreView.{CoreView}
-use Rattle.core_events.specs.Runs.{Core, after, view_at}
-use Rattle.core_events.specs.Shows.{show_seat, shows}
-use Rattle.core_events.specs.Steps.{HasRoom}
-use Rattle.core_law.specs.Sound.{Sound}
-use Rattle.core_law.proofs.Bridge.{shown_seat}
-use Rattle.core_law.proofs.Events.{event_shows}
-use Rattle.acquire_retire.specs.Calls.{Steps, same_view}
-use Rattle.acquire_retire.specs.Domains.{DomainState}
-use Rattle.acquire_retire.specs.Seats.{SeatState}
-use Rattle.acquire_retire.specs.Wholes.{KnowsState, core_known, known_core}
-use Rattle.acquire_retire.proofs.Wholes.{knows_state}
-use Rattle.control_word.specs.Calls.{CountsStrong, counted_by}
-use Rattle.control_word.specs.Moves.{Becomes, KnowsStill, last_core}
-use Rattle.control_word.specs.Resting.{IsAtRest}
-use Rattle.control_word.proofs.Finding.{sound_before, strong_some, strong_word}
-use Rattle.directory_calls.specs.Directories.{HasQuota}
-use Rattle.directory_calls.specs.Steps.{Leaves}
-use Rattle.directory_calls.proofs.Going.{leaves_core}
+use Rattle.law_lesson.specs.plain_state.Fits.{AllFit}
+use Rattle.law_lesson.specs.plain_state.declared.slot.SlotId.{SlotId}
+use Rattle.law_lesson.specs.plain_state.Lists.{times}
+use Rattle.law_lesson.specs.plain_state.References.{strong_refs}
+use Rattle.law_lesson.specs.plain_state.State.{Plain, seat_at}
+use Rattle.law_lesson.specs.counter_word.Words.{value}
+use Rattle.domain_audit.specs.core_events.declared.act.Act.TheVariants as act
+use Rattle.domain_audit.specs.core_events.declared.outcome.Outcome.TheVariants as outcome
+use Rattle.domain_audit.specs.core_events.declared.view.CoreView.{CoreView}
+use Rattle.domain_audit.specs.core_events.Runs.{Core, after, view_at}
+use Rattle.domain_audit.specs.core_events.Shows.{show_seat, shows}
+use Rattle.domain_audit.specs.core_events.Steps.{HasRoom}
+use Rattle.domain_audit.specs.core_law.Sound.{Sound}
+use Rattle.domain_audit.proofs.Below.core_law.Bridge.{shown_seat}
+use Rattle.domain_audit.proofs.Below.core_law.Events.{event_shows}
+use Rattle.domain_audit.specs.acquire_retire.Calls.{Steps, same_view}
+use Rattle.domain_audit.specs.acquire_retire.Domains.{DomainState}
+use Rattle.domain_audit.specs.acquire_retire.Seats.{SeatState}
+use Rattle.domain_audit.specs.acquire_retire.Wholes.{KnowsState, core_known, known_core}
+use Rattle.domain_audit.proofs.Below.acquire_retire.Wholes.{knows_state}
+use Rattle.domain_audit.specs.control_word.Calls.{CountsStrong, counted_by}
+use Rattle.domain_audit.specs.control_word.Moves.{Becomes, KnowsStill, last_core}
+use Rattle.domain_audit.specs.control_word.Resting.{IsAtRest}
+use Rattle.domain_audit.proofs.Below.control_word.Finding.{sound_before, strong_some, strong_word}
+use Rattle.lane_domain.specs.directory_calls.Directories.{HasQuota}
+use Rattle.lane_domain.specs.directory_calls.Steps.{Leaves}
+use Rattle.lane_domain.proofs.Below.directory_calls.Going.{leaves_core}
 use Rattle.law_lesson.specs.Lessons.{HoldsOf}
 use Rattle.domain_audit.proofs.Learning.{knows_shown}
-use Rattle.domain_rule.specs.Views.{own_of}
-use Rattle.slot_store.proofs.Objects.{known_after, known_before, known_still, some_value, sound_later}
-use Rattle.text_reading.specs.Reading.{HasTwoFree}
-use Rattle.lane_files.specs.declared.shared.Shared.{Shared}
-use Rattle.words_law.specs.Views.{View, gone}
-use Rattle.words_protocol.specs.declared.law.WordsLaw.{WordsLaw}
+use Rattle.domain_audit.specs.domain_rule.Views.{own_of}
+use Rattle.domain_audit.proofs.Below.slot_store.Objects.{known_after, known_before, known_still, some_value, sound_later}
+use Rattle.lane_domain.specs.text_reading.Reading.{HasTwoFree}
+use Rattle.lane_domain.specs.lane_files.declared.shared.Shared.{Shared}
+use Rattle.words_rest.specs.words_law.Views.{View, gone}
+use Rattle.lane_domain.specs.words_protocol.declared.law.WordsLaw.{WordsLaw}
 use Rattle.lane_reports.specs.Holders.{IsCount, IsRoot, law_of}
 
 -- a root is one after a call that left what it has beside

@@ -2,7 +2,7 @@
 use Rattle.std.proofs.Common.{◌≡◌, ℕ, ◌+◌, List, [], ◌∷◌, ◌++◌, ap, ◌∙◌}
 use Rattle.std.proofs.lemmas.List.Sums.{sum_by_push}
 use Rattle.std.specs.List.{sum_by}
-use Rattle.cdrc_text.specs.Tally.{total_of}
+use Rattle.tally_sums.specs.cdrc_text.Tally.{total_of}
 use Rattle.tally_sums.specs.Sums.{Tallies}
 
 -- one tally more

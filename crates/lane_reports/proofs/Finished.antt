@@ -5,35 +5,35 @@ use Rattle.std.specs.List.{All, sum_by}
 use Rattle.std.proofs.lemmas.List.{length-append, length-map}
 use Rattle.std.proofs.lemmas.List.FromFn.{length-range_with_len}
 use Rattle.std.proofs.lemmas.List.Sums.{sum_by-cons}
-use Rattle.plain_state.specs.declared.slot.SlotId.{SlotId}
-use Rattle.plain_state.specs.Lists.{times}
-use Rattle.plain_state.specs.State.{Plain}
-use Rattle.plain_protocol.specs.Owns.{Object}
-use Rattle.core_events.specs.declared.view.CoreView.{CoreView}
-use Rattle.core_events.specs.declared.view.LeftSeat.{LeftSeat}
-use Rattle.core_events.specs.Shows.{shows}
-use Rattle.counted_handles.specs.Handles.{Handle}
-use Rattle.acquire_retire.specs.Domains.{DomainState}
-use Rattle.acquire_retire.specs.Seats.{SeatState}
-use Rattle.acquire_retire.specs.Wholes.{known_core}
-use Rattle.control_word.specs.Resting.{IsAtRest}
-use Rattle.protected_loads.proofs.Telling.{holds_has}
-use Rattle.directory_law.specs.declared.view.View.{View as DirectoryView}
-use Rattle.directory_law.specs.Bytes.{AreBytes, text_bytes}
-use Rattle.directory_law.specs.Payloads.{Text}
-use Rattle.cdrc_text.specs.Fold.{File, times as word_times}
-use Rattle.cdrc_text.specs.Tally.{count_of, total_of}
-use Rattle.words_law.specs.Known.{KnowsMore}
-use Rattle.words_law.specs.Views.{View}
-use Rattle.words_protocol.specs.declared.law.WordsLaw.{WordsLaw}
-use Rattle.words_protocol.specs.Sides.{area_of, ends_of}
+use Rattle.law_lesson.specs.plain_state.declared.slot.SlotId.{SlotId}
+use Rattle.law_lesson.specs.plain_state.Lists.{times}
+use Rattle.law_lesson.specs.plain_state.State.{Plain}
+use Rattle.law_lesson.specs.plain_protocol.Owns.{Object}
+use Rattle.domain_audit.specs.core_events.declared.view.CoreView.{CoreView}
+use Rattle.domain_audit.specs.core_events.declared.view.LeftSeat.{LeftSeat}
+use Rattle.domain_audit.specs.core_events.Shows.{shows}
+use Rattle.domain_audit.specs.counted_handles.Handles.{Handle}
+use Rattle.domain_audit.specs.acquire_retire.Domains.{DomainState}
+use Rattle.domain_audit.specs.acquire_retire.Seats.{SeatState}
+use Rattle.domain_audit.specs.acquire_retire.Wholes.{known_core}
+use Rattle.domain_audit.specs.control_word.Resting.{IsAtRest}
+use Rattle.domain_audit.proofs.Below.protected_loads.Telling.{holds_has}
+use Rattle.words_rest.specs.directory_law.declared.view.View.{View as DirectoryView}
+use Rattle.words_rest.specs.directory_law.Bytes.{AreBytes, text_bytes}
+use Rattle.words_rest.specs.directory_law.Payloads.{Text}
+use Rattle.tally_sums.specs.cdrc_text.Fold.{File, times as word_times}
+use Rattle.tally_sums.specs.cdrc_text.Tally.{count_of, total_of}
+use Rattle.words_rest.specs.words_law.Known.{KnowsMore}
+use Rattle.words_rest.specs.words_law.Views.{View}
+use Rattle.lane_domain.specs.words_protocol.declared.law.WordsLaw.{WordsLaw}
+use Rattle.lane_domain.specs.words_protocol.Sides.{area_of, ends_of}
 use Rattle.words_rest.specs.Kept.{TellsFiles}
 use Rattle.ticket_shares.specs.Tickets.{AreLanes, IsEachOnce, together}
 use Rattle.ticket_shares.proofs.Lanes.{each_ticket}
-use Rattle.lane_files.specs.Ready.{Owns}
-use Rattle.lane_files.specs.declared.work.Work.{Work}
-use Rattle.lane_files.specs.Keeping.{slots_of}
-use Rattle.lane_files.specs.Work.{IsWork, all_tickets, kept_files}
+use Rattle.lane_domain.specs.lane_files.Ready.{Owns}
+use Rattle.lane_domain.specs.lane_files.declared.work.Work.{Work}
+use Rattle.lane_domain.specs.lane_files.Keeping.{slots_of}
+use Rattle.lane_domain.specs.lane_files.Work.{IsWork, all_tickets, kept_files}
 use Rattle.lane_domain.specs.Sizes.{all_pieces, texts_in}
 use Rattle.lane_reports.proofs.Small.{files_small, texts_small}
 use Rattle.lane_reports.specs.declared.done.Done.{Done}

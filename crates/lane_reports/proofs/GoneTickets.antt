@@ -6,24 +6,24 @@ use Rattle.std.proofs.lemmas.Bool.{cases_eq}
 use Rattle.std.proofs.lemmas.Bool.Decides.{nat_tests}
 use Rattle.std.proofs.lemmas.List.{length-set, get_or-set_other, get_or-set_same}
 use Rattle.std.proofs.lemmas.List.Sums.{sum_by-cons}
-use Rattle.core_events.specs.declared.act.Act.{Act}
-use Rattle.core_events.specs.declared.act.Act.TheVariants as act
-use Rattle.core_events.specs.declared.act.Event.{Event}
-use Rattle.core_events.specs.declared.outcome.Outcome.TheVariants as outcome
-use Rattle.core_events.specs.declared.shape.Quota.{Quota}
-use Rattle.core_events.specs.declared.shape.Shape.{Shape}
-use Rattle.core_events.specs.declared.view.CoreView.{CoreView}
-use Rattle.core_events.specs.declared.view.LeftSeat.{LeftSeat}
-use Rattle.core_events.specs.Counts.{number_times, ticket_times, tickets_drawn, total}
-use Rattle.core_events.specs.Runs.{AreTerms, Core, Enabled, History, IsShape, after, found, left_behind, taken_over, view_at}
-use Rattle.core_events.specs.Steps.{May, moved, noted}
-use Rattle.core_events.specs.Views.{Terms, first_views, no_view}
-use Rattle.core_law.specs.Sound.{Sound}
-use Rattle.core_law.proofs.Always.{history_sound, is_leave}
-use Rattle.core_law.proofs.Trails.{changed_trail, views_plain}
-use Rattle.core_law.proofs.Bridge.{total_zero}
-use Rattle.claim_law.proofs.Going.{drawn, grows}
-use Rattle.domain_rule.specs.Rule.{OthersLeft}
+use Rattle.domain_audit.specs.core_events.declared.act.Act.{Act}
+use Rattle.domain_audit.specs.core_events.declared.act.Act.TheVariants as act
+use Rattle.domain_audit.specs.core_events.declared.act.Event.{Event}
+use Rattle.domain_audit.specs.core_events.declared.outcome.Outcome.TheVariants as outcome
+use Rattle.domain_audit.specs.core_events.declared.shape.Quota.{Quota}
+use Rattle.domain_audit.specs.core_events.declared.shape.Shape.{Shape}
+use Rattle.domain_audit.specs.core_events.declared.view.CoreView.{CoreView}
+use Rattle.domain_audit.specs.core_events.declared.view.LeftSeat.{LeftSeat}
+use Rattle.domain_audit.specs.core_events.Counts.{number_times, ticket_times, tickets_drawn, total}
+use Rattle.domain_audit.specs.core_events.Runs.{AreTerms, Core, Enabled, History, IsShape, after, found, left_behind, taken_over, view_at}
+use Rattle.domain_audit.specs.core_events.Steps.{May, moved, noted}
+use Rattle.domain_audit.specs.core_events.Views.{Terms, first_views, no_view}
+use Rattle.domain_audit.specs.core_law.Sound.{Sound}
+use Rattle.domain_audit.proofs.Below.core_law.Always.{history_sound, is_leave}
+use Rattle.domain_audit.proofs.Below.core_law.Trails.{changed_trail, views_plain}
+use Rattle.domain_audit.proofs.Below.core_law.Bridge.{total_zero}
+use Rattle.domain_audit.proofs.Below.claim_law.Going.{drawn, grows}
+use Rattle.domain_audit.specs.domain_rule.Rule.{OthersLeft}
 use Rattle.ticket_shares.specs.Tickets.{DrewOnce, together}
 use Rattle.ticket_shares.specs.Tickets as shares
 

@@ -5,13 +5,13 @@ use Rattle.std.specs.List.{All, filter}
 use Rattle.std.proofs.lemmas.Bool.{cases_lt}
 use Rattle.std.proofs.lemmas.List.{get_or_past, length-map}
 use Rattle.std.proofs.lemmas.List.Elements.{All-map}
-use Rattle.cdrc_text.specs.Fold.{File, holders_in, times}
+use Rattle.tally_sums.specs.cdrc_text.Fold.{File, holders_in, times}
 use Rattle.ticket_shares.specs.Tickets.{IsEachOnce, file_of}
 use Rattle.ticket_shares.specs.Tickets as shares
 use Rattle.ticket_shares.proofs.Rounds.{round_counts}
-use Rattle.lane_files.specs.declared.work.Work.{Work}
-use Rattle.lane_files.specs.Files.{pieces_in}
-use Rattle.lane_files.specs.Work.{all_tickets, is_last, kept_files, words_of}
+use Rattle.lane_domain.specs.lane_files.declared.work.Work.{Work}
+use Rattle.lane_domain.specs.lane_files.Files.{pieces_in}
+use Rattle.lane_domain.specs.lane_files.Work.{all_tickets, is_last, kept_files, words_of}
 use Rattle.lane_domain.specs.Sizes.{texts_in}
 
 module _ (work : Work) (tickets : List ℕ) where

@@ -1,47 +1,47 @@
 -- What a look tells with the lesson of the law.
 use Rattle.std.proofs.Common.{length, ◌+◌, ◌≡◌, ℕ, List, [], ◌∷◌, ap, sym, ◌∙◌, subst, refl}
 use Rattle.std.specs.Prelude.{IsSome, None, Some, map}
-use Rattle.plain_state.specs.Fits.{AllFit}
-use Rattle.plain_state.specs.Places.{content}
-use Rattle.plain_state.specs.State.{Plain, slot_at}
-use Rattle.plain_state.specs.declared.act.EventPlace.TheVariants.{Cell}
-use Rattle.core_events.specs.declared.act.Act.{Act}
-use Rattle.core_events.specs.declared.act.Act.TheVariants as act
-use Rattle.core_events.specs.declared.outcome.Outcome.{Outcome}
-use Rattle.core_events.specs.declared.view.CoreView.{CoreView}
-use Rattle.core_events.specs.Runs.{Core, after, view_at}
-use Rattle.core_events.specs.Shows.{shows}
-use Rattle.core_events.specs.Words.{slot_in}
-use Rattle.core_events.specs.declared.outcome.Outcome.TheVariants as outcome
-use Rattle.core_law.specs.Sound.{Sound}
-use Rattle.core_law.proofs.Events.{event_shows}
+use Rattle.law_lesson.specs.plain_state.Fits.{AllFit}
+use Rattle.law_lesson.specs.plain_state.Places.{content}
+use Rattle.law_lesson.specs.plain_state.State.{Plain, slot_at}
+use Rattle.law_lesson.specs.plain_state.declared.act.EventPlace.TheVariants.{Cell}
+use Rattle.domain_audit.specs.core_events.declared.act.Act.{Act}
+use Rattle.domain_audit.specs.core_events.declared.act.Act.TheVariants as act
+use Rattle.domain_audit.specs.core_events.declared.outcome.Outcome.{Outcome}
+use Rattle.domain_audit.specs.core_events.declared.view.CoreView.{CoreView}
+use Rattle.domain_audit.specs.core_events.Runs.{Core, after, view_at}
+use Rattle.domain_audit.specs.core_events.Shows.{shows}
+use Rattle.domain_audit.specs.core_events.Words.{slot_in}
+use Rattle.domain_audit.specs.core_events.declared.outcome.Outcome.TheVariants as outcome
+use Rattle.domain_audit.specs.core_law.Sound.{Sound}
+use Rattle.domain_audit.proofs.Below.core_law.Events.{event_shows}
 use Rattle.domain_audit.proofs.Learning.{knows_shown}
-use Rattle.domain_rule.specs.Rule.{OthersLeft}
-use Rattle.domain_rule.specs.Views.{IsAlone, own_of}
-use Rattle.acquire_retire.specs.Calls.{Steps, same_view}
-use Rattle.acquire_retire.specs.Collecting.{move}
-use Rattle.acquire_retire.specs.Domains.{DomainState}
-use Rattle.acquire_retire.specs.Seats.{SeatState}
-use Rattle.acquire_retire.specs.Wholes.{known_core}
-use Rattle.control_word.specs.Moves.{Becomes}
-use Rattle.control_word.specs.Resting.{IsAtRest}
-use Rattle.control_word.proofs.Becoming.{knows_after, one_step, rest_after}
-use Rattle.control_word.proofs.Finding.{sound_before}
-use Rattle.protected_loads.proofs.Telling.{content_found}
-use Rattle.acquire_retire.proofs.Contents.{look_on}
+use Rattle.domain_audit.specs.domain_rule.Rule.{OthersLeft}
+use Rattle.domain_audit.specs.domain_rule.Views.{IsAlone, own_of}
+use Rattle.domain_audit.specs.acquire_retire.Calls.{Steps, same_view}
+use Rattle.domain_audit.specs.acquire_retire.Collecting.{move}
+use Rattle.domain_audit.specs.acquire_retire.Domains.{DomainState}
+use Rattle.domain_audit.specs.acquire_retire.Seats.{SeatState}
+use Rattle.domain_audit.specs.acquire_retire.Wholes.{known_core}
+use Rattle.domain_audit.specs.control_word.Moves.{Becomes}
+use Rattle.domain_audit.specs.control_word.Resting.{IsAtRest}
+use Rattle.domain_audit.proofs.Below.control_word.Becoming.{knows_after, one_step, rest_after}
+use Rattle.domain_audit.proofs.Below.control_word.Finding.{sound_before}
+use Rattle.domain_audit.proofs.Below.protected_loads.Telling.{content_found}
+use Rattle.domain_audit.proofs.Below.acquire_retire.Contents.{look_on}
 use Rattle.law_lesson.specs.Lessons.{HoldsOf}
-use Rattle.slot_store.proofs.Objects.{known_after, known_before, known_still, some_value, sound_later}
-use Rattle.words_law.specs.Views.{View, gone}
-use Rattle.words_protocol.specs.declared.law.WordsLaw.{WordsLaw}
+use Rattle.domain_audit.proofs.Below.slot_store.Objects.{known_after, known_before, known_still, some_value, sound_later}
+use Rattle.words_rest.specs.words_law.Views.{View, gone}
+use Rattle.lane_domain.specs.words_protocol.declared.law.WordsLaw.{WordsLaw}
 use Rattle.lane_reports.specs.Holders.{law_of}
 use Rattle.lane_reports.specs.Learning.{DrewAll, HoldsNothing, LearnsLaw}
 use Rattle.lane_reports.proofs.CountingHolders.{Lesson}
 use Rattle.lane_reports.proofs.GoneTickets.{OthersHaveNone, drew_once, history_none, step_none}
 use Rattle.ticket_shares.specs.Tickets.{DrewOnce}
-use Rattle.plain_protocol.specs.Owns.{object_of}
+use Rattle.law_lesson.specs.plain_protocol.Owns.{object_of}
 use Rattle.domain_audit.specs.Audits.{KnowsLone}
-use Rattle.core_events.specs.declared.view.LeftSeat.{LeftSeat}
-use Rattle.core_events.specs.Counts.{tickets_drawn}
+use Rattle.domain_audit.specs.core_events.declared.view.LeftSeat.{LeftSeat}
+use Rattle.domain_audit.specs.core_events.Counts.{tickets_drawn}
 
 module _ (fits : List ℕ → Type 0) (d : DomainState WordsLaw) (cell : ℕ) (old new : SeatState View)
     (o : Outcome) (step : Steps fits d same_view (Lesson d) (act.Look (Cell cell)) old new o)

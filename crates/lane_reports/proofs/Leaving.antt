@@ -5,48 +5,48 @@ use Rattle.std.specs.List.{flat_map, range_with_len, sum_by}
 use Rattle.std.proofs.lemmas.List.{append-nil, length-append, map-append, map_push}
 use Rattle.std.proofs.lemmas.List.Concat.{flat_map-append}
 use Rattle.std.proofs.lemmas.List.Sums.{sum_by-append}
-use Rattle.plain_state.specs.declared.slot.SlotId.{SlotId}
-use Rattle.plain_state.specs.Lists.{times}
-use Rattle.core_events.specs.declared.act.Act.TheVariants as act
-use Rattle.core_events.specs.declared.outcome.Outcome.TheVariants as outcome
-use Rattle.core_events.specs.declared.view.CoreView.{CoreView}
-use Rattle.core_events.specs.declared.view.LeftSeat.{LeftSeat}
-use Rattle.core_events.specs.declared.view.Note.TheVariants as note
-use Rattle.core_events.specs.Runs.{taken_over}
-use Rattle.core_events.specs.Steps.{HasRoom, IsIdle, noted}
-use Rattle.core_events.specs.Views.{note_of, room_of}
-use Rattle.core_law.proofs.Kit.{times_append}
-use Rattle.protected_loads.proofs.Telling.{holds_has}
-use Rattle.counted_handles.specs.Handles.{Handle}
-use Rattle.acquire_retire.specs.Domains.{DomainState}
-use Rattle.acquire_retire.specs.Leavings.{TookOver}
-use Rattle.acquire_retire.specs.Seats.{SeatState}
-use Rattle.control_word.specs.Resting.{IsAtRest, IsSettled, IsUnderNone}
-use Rattle.directory_calls.specs.Directories.{HasQuota}
-use Rattle.directory_law.specs.declared.view.View.{View as DirectoryView}
-use Rattle.directory_law.specs.Bytes.{text_bytes}
-use Rattle.directory_law.proofs.Notes.{in_left, in_right}
-use Rattle.domain_rule.specs.declared.view.SeatView.{SeatView}
-use Rattle.linked_queue.specs.Queues.{IsAttached}
-use Rattle.queue_law.specs.declared.view.Item.{Item}
-use Rattle.queue_law.specs.declared.view.Taken.{Taken}
-use Rattle.queue_law.specs.declared.view.View.{View as QueueView}
-use Rattle.queue_law.specs.Lists.{taken_items}
-use Rattle.text_reading.specs.Reading.{HasTwoFree}
+use Rattle.law_lesson.specs.plain_state.declared.slot.SlotId.{SlotId}
+use Rattle.law_lesson.specs.plain_state.Lists.{times}
+use Rattle.domain_audit.specs.core_events.declared.act.Act.TheVariants as act
+use Rattle.domain_audit.specs.core_events.declared.outcome.Outcome.TheVariants as outcome
+use Rattle.domain_audit.specs.core_events.declared.view.CoreView.{CoreView}
+use Rattle.domain_audit.specs.core_events.declared.view.LeftSeat.{LeftSeat}
+use Rattle.domain_audit.specs.core_events.declared.view.Note.TheVariants as note
+use Rattle.domain_audit.specs.core_events.Runs.{taken_over}
+use Rattle.domain_audit.specs.core_events.Steps.{HasRoom, IsIdle, noted}
+use Rattle.domain_audit.specs.core_events.Views.{note_of, room_of}
+use Rattle.domain_audit.proofs.Below.core_law.Kit.{times_append}
+use Rattle.domain_audit.proofs.Below.protected_loads.Telling.{holds_has}
+use Rattle.domain_audit.specs.counted_handles.Handles.{Handle}
+use Rattle.domain_audit.specs.acquire_retire.Domains.{DomainState}
+use Rattle.domain_audit.specs.acquire_retire.Leavings.{TookOver}
+use Rattle.domain_audit.specs.acquire_retire.Seats.{SeatState}
+use Rattle.domain_audit.specs.control_word.Resting.{IsAtRest, IsSettled, IsUnderNone}
+use Rattle.lane_domain.specs.directory_calls.Directories.{HasQuota}
+use Rattle.words_rest.specs.directory_law.declared.view.View.{View as DirectoryView}
+use Rattle.words_rest.specs.directory_law.Bytes.{text_bytes}
+use Rattle.words_rest.proofs.Below.directory_law.Notes.{in_left, in_right}
+use Rattle.domain_audit.specs.domain_rule.declared.view.SeatView.{SeatView}
+use Rattle.lane_domain.specs.linked_queue.Queues.{IsAttached}
+use Rattle.words_rest.specs.queue_law.declared.view.Item.{Item}
+use Rattle.words_rest.specs.queue_law.declared.view.Taken.{Taken}
+use Rattle.words_rest.specs.queue_law.declared.view.View.{View as QueueView}
+use Rattle.words_rest.specs.queue_law.Lists.{taken_items}
+use Rattle.lane_domain.specs.text_reading.Reading.{HasTwoFree}
 use Rattle.ticket_shares.specs.Tickets.{AreLanes, together}
-use Rattle.words_law.specs.Known.{ForgetsNothing, KnowsMore}
-use Rattle.words_law.specs.Owned.{join_directories, joined}
-use Rattle.words_law.specs.Views.{View}
-use Rattle.words_law.proofs.Known.{joined_knows}
-use Rattle.words_protocol.specs.declared.law.WordsLaw.{WordsLaw}
-use Rattle.lane_files.specs.Passed.{KnowsWords, by_seat}
-use Rattle.lane_files.specs.declared.shared.Shared.{Shared}
-use Rattle.lane_files.specs.Ready.{IsReady}
-use Rattle.lane_files.proofs.PiecesCounted.{more_then}
-use Rattle.lane_files.specs.declared.lane.Lane.{Lane}
-use Rattle.lane_files.specs.declared.work.Work.{Work}
-use Rattle.lane_files.specs.Keeping.{slots_of}
-use Rattle.lane_files.specs.Work.{all_tickets, kept_files, words_of_all}
+use Rattle.words_rest.specs.words_law.Known.{ForgetsNothing, KnowsMore}
+use Rattle.words_rest.specs.words_law.Owned.{join_directories, joined}
+use Rattle.words_rest.specs.words_law.Views.{View}
+use Rattle.words_rest.proofs.Below.words_law.Known.{joined_knows}
+use Rattle.lane_domain.specs.words_protocol.declared.law.WordsLaw.{WordsLaw}
+use Rattle.lane_domain.specs.lane_files.Passed.{KnowsWords, by_seat}
+use Rattle.lane_domain.specs.lane_files.declared.shared.Shared.{Shared}
+use Rattle.lane_domain.specs.lane_files.Ready.{IsReady}
+use Rattle.lane_domain.proofs.Below.lane_files.PiecesCounted.{more_then}
+use Rattle.lane_domain.specs.lane_files.declared.lane.Lane.{Lane}
+use Rattle.lane_domain.specs.lane_files.declared.work.Work.{Work}
+use Rattle.lane_domain.specs.lane_files.Keeping.{slots_of}
+use Rattle.lane_domain.specs.lane_files.Work.{all_tickets, kept_files, words_of_all}
 use Rattle.lane_reports.specs.declared.done.Done.{Done}
 use Rattle.lane_reports.specs.Deeds.{LaneDeeds, LaneDid, OwnsJust}
 use Rattle.lane_reports.specs.Gathering.{DrewTickets, HasGathered, HasItems, KeptAlike, StaysBeside, TellsLanes, Tally, beside_lists, beside_taken, each_by, kept_by, shares_of, words_popped}

@@ -1,3 +1,4 @@
+pub mod Below
 pub mod Ran
 pub mod Begun
 pub mod Counts

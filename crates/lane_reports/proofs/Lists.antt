@@ -4,13 +4,13 @@ use Rattle.std.specs.Prelude.{length}
 use Rattle.std.specs.List.{range_with_len}
 use Rattle.std.proofs.lemmas.List.{append-nil, map_push}
 use Rattle.std.proofs.lemmas.List.Concat.{flat_map-append}
-use Rattle.queue_law.specs.declared.view.Item.{Item}
-use Rattle.queue_law.specs.declared.view.Taken.{Taken}
-use Rattle.queue_law.specs.Lists.{taken_items}
+use Rattle.words_rest.specs.queue_law.declared.view.Item.{Item}
+use Rattle.words_rest.specs.queue_law.declared.view.Taken.{Taken}
+use Rattle.words_rest.specs.queue_law.Lists.{taken_items}
 use Rattle.ticket_shares.specs.Tickets.{AreLanes, IsShare, together}
-use Rattle.lane_files.specs.Passed.{by_seat}
-use Rattle.lane_files.specs.declared.work.Work.{Work}
-use Rattle.lane_files.specs.Work.{words_of, words_of_all}
+use Rattle.lane_domain.specs.lane_files.Passed.{by_seat}
+use Rattle.lane_domain.specs.lane_files.declared.work.Work.{Work}
+use Rattle.lane_domain.specs.lane_files.Work.{words_of, words_of_all}
 use Rattle.lane_reports.specs.Deeds.{IsTallyOf, LaneDeeds}
 use Rattle.lane_reports.specs.Gathering.{AreTallies, each_by, shares_of, words_popped}
 

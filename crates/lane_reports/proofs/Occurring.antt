@@ -8,33 +8,33 @@ use Rattle.std.proofs.lemmas.Bool.{cases_lt}
 use Rattle.std.proofs.lemmas.List.{length-append, length-drop, length-map, length-take-le}
 use Rattle.std.proofs.lemmas.List.Elements.{All-head, All-tail}
 use Rattle.std.proofs.lemmas.List.Sums.{sum_by-append, sum_by-cons}
-use Rattle.plain_state.specs.State.{Plain}
-use Rattle.plain_protocol.specs.Laws.{Meets}
-use Rattle.plain_protocol.specs.Owns.{is_alone}
-use Rattle.queue_law.specs.declared.view.Item.{Item}
-use Rattle.queue_law.specs.declared.view.View.{View as QueueView}
-use Rattle.queue_law.specs.Chain.{Ends}
-use Rattle.queue_law.specs.Lists.{item_times, same_item, taken_items}
-use Rattle.queue_law.proofs.Shut.{left_over}
-use Rattle.directory_law.specs.declared.view.View.{View as DirectoryView}
-use Rattle.directory_law.specs.Bytes.{text_bytes}
-use Rattle.directory_law.specs.Cells.{Area}
-use Rattle.directory_law.specs.Payloads.{Text}
-use Rattle.cdrc_text.specs.Fold.{File, times}
-use Rattle.cdrc_text.specs.Pieces.{bytes_at}
-use Rattle.cdrc_text.specs.Tally.{count_of, total_of}
-use Rattle.words_law.specs.Known.{KnowsTexts}
-use Rattle.words_law.specs.Law.{WordsLaw}
-use Rattle.words_law.specs.Views.{View, gone, queues}
-use Rattle.words_law.proofs.Counts.{popped_is, pushed_is, same_counts}
-use Rattle.words_law.proofs.Parts.{queue_at}
-use Rattle.words_law.proofs.Root.{root_has, told_agree}
+use Rattle.law_lesson.specs.plain_state.State.{Plain}
+use Rattle.law_lesson.specs.plain_protocol.Laws.{Meets}
+use Rattle.law_lesson.specs.plain_protocol.Owns.{is_alone}
+use Rattle.words_rest.specs.queue_law.declared.view.Item.{Item}
+use Rattle.words_rest.specs.queue_law.declared.view.View.{View as QueueView}
+use Rattle.words_rest.specs.queue_law.Chain.{Ends}
+use Rattle.words_rest.specs.queue_law.Lists.{item_times, same_item, taken_items}
+use Rattle.words_rest.proofs.Below.queue_law.Shut.{left_over}
+use Rattle.words_rest.specs.directory_law.declared.view.View.{View as DirectoryView}
+use Rattle.words_rest.specs.directory_law.Bytes.{text_bytes}
+use Rattle.words_rest.specs.directory_law.Cells.{Area}
+use Rattle.words_rest.specs.directory_law.Payloads.{Text}
+use Rattle.tally_sums.specs.cdrc_text.Fold.{File, times}
+use Rattle.tally_sums.specs.cdrc_text.Pieces.{bytes_at}
+use Rattle.tally_sums.specs.cdrc_text.Tally.{count_of, total_of}
+use Rattle.words_rest.specs.words_law.Known.{KnowsTexts}
+use Rattle.words_rest.specs.words_law.Law.{WordsLaw}
+use Rattle.words_rest.specs.words_law.Views.{View, gone, queues}
+use Rattle.words_rest.proofs.Below.words_law.Counts.{popped_is, pushed_is, same_counts}
+use Rattle.words_rest.proofs.Below.words_law.Parts.{queue_at}
+use Rattle.words_rest.proofs.Below.words_law.Root.{root_has, told_agree}
 use Rattle.ticket_shares.specs.Tickets.{IsEachOnce, file_of}
 use Rattle.ticket_shares.proofs.Rounds.{round_sums}
-use Rattle.lane_files.specs.declared.file.FileText.{FileText}
-use Rattle.lane_files.specs.declared.work.Work.{Work}
-use Rattle.lane_files.specs.Files.{HasPieces, IsLongPlace, pieces_in}
-use Rattle.lane_files.specs.Work.{IsWork, all_tickets, words_of, words_of_all}
+use Rattle.lane_domain.specs.lane_files.declared.file.FileText.{FileText}
+use Rattle.lane_domain.specs.lane_files.declared.work.Work.{Work}
+use Rattle.lane_domain.specs.lane_files.Files.{HasPieces, IsLongPlace, pieces_in}
+use Rattle.lane_domain.specs.lane_files.Work.{IsWork, all_tickets, words_of, words_of_all}
 use Rattle.lane_domain.specs.Sizes.{all_pieces, texts_in}
 use Rattle.lane_reports.specs.Deeds.{LaneDeeds}
 use Rattle.lane_reports.specs.Gathering.{AreTallies, Tally, words_popped}

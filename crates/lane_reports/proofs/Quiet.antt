@@ -1,18 +1,18 @@
 -- What a seat is left with that has given up all that it owned, and settled under no snapshot.
 use Rattle.std.proofs.Common.{◌≡◌, ℕ, zero, suc, ◌≤◌, List, [], ◌∷◌, refl, ap, ◌∙◌, arith}
-use Rattle.plain_state.specs.declared.slot.Kind.{Kind}
-use Rattle.plain_state.specs.declared.slot.Kind.TheVariants.{Strong, Weak, Disposal}
-use Rattle.plain_state.specs.declared.slot.SlotId.{SlotId}
-use Rattle.plain_state.specs.Lists.{Entry, entry_times, times}
-use Rattle.core_events.specs.declared.view.CoreView.{CoreView}
-use Rattle.core_events.specs.Views.{snapshots}
-use Rattle.core_law.proofs.Kit.{entry_cons, entry_none, entry_one, kind_one, one_same}
-use Rattle.acquire_retire.specs.Collecting.{rest_of}
-use Rattle.acquire_retire.specs.Seats.{SeatState}
-use Rattle.slot_store.specs.Leftovers.{IsQuiet}
-use Rattle.slot_store.proofs.Turning.{nothing_in}
-use Rattle.lane_files.specs.Keeping.{GivesUp}
-use Rattle.words_law.specs.Views.{View}
+use Rattle.law_lesson.specs.plain_state.declared.slot.Kind.{Kind}
+use Rattle.law_lesson.specs.plain_state.declared.slot.Kind.TheVariants.{Strong, Weak, Disposal}
+use Rattle.law_lesson.specs.plain_state.declared.slot.SlotId.{SlotId}
+use Rattle.law_lesson.specs.plain_state.Lists.{Entry, entry_times, times}
+use Rattle.domain_audit.specs.core_events.declared.view.CoreView.{CoreView}
+use Rattle.domain_audit.specs.core_events.Views.{snapshots}
+use Rattle.domain_audit.proofs.Below.core_law.Kit.{entry_cons, entry_none, entry_one, kind_one, one_same}
+use Rattle.domain_audit.specs.acquire_retire.Collecting.{rest_of}
+use Rattle.domain_audit.specs.acquire_retire.Seats.{SeatState}
+use Rattle.domain_audit.specs.slot_store.Leftovers.{IsQuiet}
+use Rattle.domain_audit.proofs.Below.slot_store.Turning.{nothing_in}
+use Rattle.lane_domain.specs.lane_files.Keeping.{GivesUp}
+use Rattle.words_rest.specs.words_law.Views.{View}
 
 same_kind_one : (k : Kind) (n : ℕ) → kind_one k k n ≡ n
 same_kind_one Strong n = refl

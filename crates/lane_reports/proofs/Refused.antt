@@ -3,37 +3,37 @@ use Rattle.std.proofs.Common.{◌+◌, ◌≡◌, inl, inr, ℕ, List, [], ◌�
 use Rattle.std.specs.Prelude.{length, slice_index_or, Result}
 use Rattle.std.proofs.Math.Seq.{get_or-append_seam}
 use Rattle.std.proofs.lemmas.List.{length-append}
-use Rattle.acquire_retire.specs.Domains.{DomainState}
-use Rattle.acquire_retire.specs.Seats.{SeatState}
-use Rattle.control_word.specs.Resting.{IsSpent}
-use Rattle.slot_store.specs.declared.making.MakeError.{MakeError}
-use Rattle.slot_store.specs.declared.making.MakeError.TheVariants as unmade
-use Rattle.queue_law.specs.declared.view.Form.{Form}
-use Rattle.queue_law.specs.declared.view.View.{View as QueueView}
-use Rattle.words_law.specs.Views.{View}
-use Rattle.plain_state.specs.Lists.{times}
-use Rattle.core_events.specs.declared.view.CoreView.{CoreView}
-use Rattle.core_law.proofs.Kit.{times_none}
-use Rattle.lane_files.specs.Owning.{OwnsNoNode}
-use Rattle.lane_files.specs.Scans.{HasScanned}
-use Rattle.words_protocol.specs.declared.law.WordsLaw.{WordsLaw}
-use Rattle.lane_files.specs.declared.refusal.LaneError.TheVariants as untaken
-use Rattle.lane_files.specs.declared.refusal.PieceError.{PieceError}
-use Rattle.lane_files.specs.declared.refusal.PieceError.TheVariants as uncounted
-use Rattle.lane_files.specs.declared.shared.Shared.{Shared}
-use Rattle.lane_files.specs.Pieces.{IsWhyNotCounted}
-use Rattle.lane_files.specs.Whys.{IsWhyNotCopied}
-use Rattle.lane_files.specs.declared.lane.Lane.{Lane}
-use Rattle.lane_files.specs.declared.refusal.FileError.TheVariants as unread
-use Rattle.lane_files.specs.declared.refusal.LaneStop.{LaneStop}
-use Rattle.lane_files.specs.declared.refusal.LaneStop.TheVariants as stopped
-use Rattle.lane_files.specs.declared.work.Work.{Work}
-use Rattle.lane_files.specs.Lanes.{IsWhyStopped, StopsLane}
-use Rattle.lane_files.specs.PieceMakes.{cause_in}
-use Rattle.lane_files.specs.Makes.{HasItsMakes, cause_of}
-use Rattle.lane_files.proofs.Owning.{owns_no_node}
-use Rattle.lane_files.proofs.Pushed.{full_scanned}
-use Rattle.core_law.proofs.Each.{get_each, length_each}
+use Rattle.domain_audit.specs.acquire_retire.Domains.{DomainState}
+use Rattle.domain_audit.specs.acquire_retire.Seats.{SeatState}
+use Rattle.domain_audit.specs.control_word.Resting.{IsSpent}
+use Rattle.domain_audit.specs.slot_store.declared.making.MakeError.{MakeError}
+use Rattle.domain_audit.specs.slot_store.declared.making.MakeError.TheVariants as unmade
+use Rattle.words_rest.specs.queue_law.declared.view.Form.{Form}
+use Rattle.words_rest.specs.queue_law.declared.view.View.{View as QueueView}
+use Rattle.words_rest.specs.words_law.Views.{View}
+use Rattle.law_lesson.specs.plain_state.Lists.{times}
+use Rattle.domain_audit.specs.core_events.declared.view.CoreView.{CoreView}
+use Rattle.domain_audit.proofs.Below.core_law.Kit.{times_none}
+use Rattle.lane_domain.specs.lane_files.Owning.{OwnsNoNode}
+use Rattle.lane_domain.specs.lane_files.Scans.{HasScanned}
+use Rattle.lane_domain.specs.words_protocol.declared.law.WordsLaw.{WordsLaw}
+use Rattle.lane_domain.specs.lane_files.declared.refusal.LaneError.TheVariants as untaken
+use Rattle.lane_domain.specs.lane_files.declared.refusal.PieceError.{PieceError}
+use Rattle.lane_domain.specs.lane_files.declared.refusal.PieceError.TheVariants as uncounted
+use Rattle.lane_domain.specs.lane_files.declared.shared.Shared.{Shared}
+use Rattle.lane_domain.specs.lane_files.Pieces.{IsWhyNotCounted}
+use Rattle.lane_domain.specs.lane_files.Whys.{IsWhyNotCopied}
+use Rattle.lane_domain.specs.lane_files.declared.lane.Lane.{Lane}
+use Rattle.lane_domain.specs.lane_files.declared.refusal.FileError.TheVariants as unread
+use Rattle.lane_domain.specs.lane_files.declared.refusal.LaneStop.{LaneStop}
+use Rattle.lane_domain.specs.lane_files.declared.refusal.LaneStop.TheVariants as stopped
+use Rattle.lane_domain.specs.lane_files.declared.work.Work.{Work}
+use Rattle.lane_domain.specs.lane_files.Lanes.{IsWhyStopped, StopsLane}
+use Rattle.lane_domain.specs.lane_files.PieceMakes.{cause_in}
+use Rattle.lane_domain.specs.lane_files.Makes.{HasItsMakes, cause_of}
+use Rattle.lane_domain.proofs.Below.lane_files.Owning.{owns_no_node}
+use Rattle.lane_domain.proofs.Below.lane_files.Pushed.{full_scanned}
+use Rattle.domain_audit.proofs.Below.core_law.Each.{get_each, length_each}
 use Rattle.lane_domain.specs.Opened.{FindsNoSlot, IsDomainFor, fresh_lanes, fresh_seat}
 use Rattle.lane_domain.proofs.Enough.{attached_makes, makes_left, slots_lacked}
 use Rattle.lane_domain.specs.declared.ending.LaneEnd.{LaneEnd}

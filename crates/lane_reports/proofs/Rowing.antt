@@ -5,18 +5,18 @@ use Rattle.std.specs.List.{All, Contains}
 use Rattle.std.specs.Map.{keys_of}
 use Rattle.std.proofs.lemmas.List.{map-append}
 use Rattle.std.proofs.lemmas.List.Elements.{All-push, Contains-append_right}
-use Rattle.cdrc_text.specs.Tally.{shown_entries}
-use Rattle.cdrc_text.proofs.Unique.{Contains-first}
-use Rattle.plain_state.specs.declared.slot.SlotId.{SlotId}
-use Rattle.plain_state.specs.Lists.{times}
-use Rattle.plain_protocol.specs.Owns.{Object}
-use Rattle.counted_handles.specs.Handles.{Handle}
-use Rattle.acquire_retire.specs.Seats.{SeatState}
-use Rattle.directory_calls.specs.Learning.{LearnsIn}
-use Rattle.directory_calls.specs.Steps.{Leaves}
-use Rattle.lane_files.specs.Keeping.{slots_of}
-use Rattle.words_law.specs.Views.{View}
-use Rattle.words_law.proofs.Known.{knows_more}
+use Rattle.tally_sums.specs.cdrc_text.Tally.{shown_entries}
+use Rattle.tally_sums.proofs.Below.cdrc_text.Unique.{Contains-first}
+use Rattle.law_lesson.specs.plain_state.declared.slot.SlotId.{SlotId}
+use Rattle.law_lesson.specs.plain_state.Lists.{times}
+use Rattle.law_lesson.specs.plain_protocol.Owns.{Object}
+use Rattle.domain_audit.specs.counted_handles.Handles.{Handle}
+use Rattle.domain_audit.specs.acquire_retire.Seats.{SeatState}
+use Rattle.lane_domain.specs.directory_calls.Learning.{LearnsIn}
+use Rattle.lane_domain.specs.directory_calls.Steps.{Leaves}
+use Rattle.lane_domain.specs.lane_files.Keeping.{slots_of}
+use Rattle.words_rest.specs.words_law.Views.{View}
+use Rattle.words_rest.proofs.Below.words_law.Known.{knows_more}
 use Rattle.words_rest.specs.Kept.{TellsWord}
 use Rattle.lane_reports.specs.declared.records.WordRecord.{WordRecord}
 use Rattle.lane_reports.specs.Holders.{AreSlotsOf, OwnsEach, texts, with_texts}

@@ -2,8 +2,8 @@
 use Rattle.std.proofs.Common.{◌≡◌, List, [], ◌∷◌, ◌++◌, ap, sym, subst, ◌∙◌}
 use Rattle.std.specs.List.{All}
 use Rattle.std.proofs.lemmas.List.Elements.{All-head, All-tail}
-use Rattle.plain_state.specs.State.{Plain}
-use Rattle.cdrc_text.specs.declared.row.Row.{Row}
+use Rattle.law_lesson.specs.plain_state.State.{Plain}
+use Rattle.tally_sums.specs.cdrc_text.declared.row.Row.{Row}
 use Rattle.lane_reports.specs.declared.records.WordRecord.{WordRecord}
 use Rattle.lane_reports.specs.Rows.{AreRowsOf, IsRowOf}
 

@@ -1,34 +1,34 @@
 -- A seat that is alone, under no snapshot, and has shut the queue and settled.
 use Rattle.std.proofs.Common.{◌≡◌, ℕ, zero, suc, ◌+◌, ◌≤◌, List, [], ◌∷◌, refl, sym, ap, subst, ◌∙◌, arith}
 use Rattle.std.specs.Prelude.{length, slice_index_or, None, Option, Some}
-use Rattle.plain_state.specs.declared.slot.Kind.{Kind}
-use Rattle.plain_state.specs.declared.slot.Kind.TheVariants.{Strong, Weak, Disposal}
-use Rattle.plain_state.specs.declared.slot.SlotId.{SlotId}
-use Rattle.plain_state.specs.Lists.{Entry, entry_times, times}
-use Rattle.core_events.specs.declared.view.CoreView.{CoreView}
-use Rattle.core_events.specs.declared.view.Note.{Note}
-use Rattle.core_events.specs.declared.view.Note.TheVariants as note
-use Rattle.core_events.specs.Views.{note_of, snapshots, valid_of}
-use Rattle.core_law.proofs.Kit.{entry_cons, entry_none, entry_one, kind_one, one_same}
-use Rattle.domain_rule.specs.Views.{IsAlone}
-use Rattle.acquire_retire.specs.Collecting.{rest_of}
-use Rattle.acquire_retire.specs.Domains.{DomainState}
-use Rattle.acquire_retire.specs.Seats.{SeatState}
-use Rattle.control_word.specs.Resting.{IsUnderNone}
-use Rattle.linked_queue.specs.Leaving as queue
-use Rattle.linked_queue.specs.Queues.{ends_of}
-use Rattle.linked_queue.specs.Shuts.{shut_in}
-use Rattle.slot_store.specs.Leftovers.{IsQuiet, LeavesCycles}
-use Rattle.slot_store.specs.Reaping.{KnowsBoth}
-use Rattle.slot_store.specs.Settling.{Settles, Turns}
-use Rattle.slot_store.proofs.Turning.{nothing_in}
-use Rattle.words_law.specs.Views.{View}
-use Rattle.words_protocol.specs.declared.law.WordsLaw.{WordsLaw}
-use Rattle.lane_files.specs.Whys.{of_queue, queue_of}
-use Rattle.lane_files.proofs.SeatsKept.{owns_on, owns_queue}
-use Rattle.lane_files.proofs.Tidied.{owns_rest}
-use Rattle.lane_files.specs.Scans.{scans_of}
-use Rattle.lane_files.proofs.Scanned.{collect_scans, reap_scans}
+use Rattle.law_lesson.specs.plain_state.declared.slot.Kind.{Kind}
+use Rattle.law_lesson.specs.plain_state.declared.slot.Kind.TheVariants.{Strong, Weak, Disposal}
+use Rattle.law_lesson.specs.plain_state.declared.slot.SlotId.{SlotId}
+use Rattle.law_lesson.specs.plain_state.Lists.{Entry, entry_times, times}
+use Rattle.domain_audit.specs.core_events.declared.view.CoreView.{CoreView}
+use Rattle.domain_audit.specs.core_events.declared.view.Note.{Note}
+use Rattle.domain_audit.specs.core_events.declared.view.Note.TheVariants as note
+use Rattle.domain_audit.specs.core_events.Views.{note_of, snapshots, valid_of}
+use Rattle.domain_audit.proofs.Below.core_law.Kit.{entry_cons, entry_none, entry_one, kind_one, one_same}
+use Rattle.domain_audit.specs.domain_rule.Views.{IsAlone}
+use Rattle.domain_audit.specs.acquire_retire.Collecting.{rest_of}
+use Rattle.domain_audit.specs.acquire_retire.Domains.{DomainState}
+use Rattle.domain_audit.specs.acquire_retire.Seats.{SeatState}
+use Rattle.domain_audit.specs.control_word.Resting.{IsUnderNone}
+use Rattle.lane_domain.specs.linked_queue.Leaving as queue
+use Rattle.lane_domain.specs.linked_queue.Queues.{ends_of}
+use Rattle.lane_domain.specs.linked_queue.Shuts.{shut_in}
+use Rattle.domain_audit.specs.slot_store.Leftovers.{IsQuiet, LeavesCycles}
+use Rattle.domain_audit.specs.slot_store.Reaping.{KnowsBoth}
+use Rattle.domain_audit.specs.slot_store.Settling.{Settles, Turns}
+use Rattle.domain_audit.proofs.Below.slot_store.Turning.{nothing_in}
+use Rattle.words_rest.specs.words_law.Views.{View}
+use Rattle.lane_domain.specs.words_protocol.declared.law.WordsLaw.{WordsLaw}
+use Rattle.lane_domain.specs.lane_files.Whys.{of_queue, queue_of}
+use Rattle.lane_domain.proofs.Below.lane_files.SeatsKept.{owns_on, owns_queue}
+use Rattle.lane_domain.proofs.Below.lane_files.Tidied.{owns_rest}
+use Rattle.lane_domain.specs.lane_files.Scans.{scans_of}
+use Rattle.lane_domain.proofs.Below.lane_files.Scanned.{collect_scans, reap_scans}
 use Rattle.lane_reports.specs.Shutting.{ShutsAndSettles}
 
 -- NO SNAPSHOT, and so nothing that waits for one

@@ -4,12 +4,12 @@ use Rattle.std.specs.Prelude.{◌==◌, cond}
 use Rattle.std.proofs.lemmas.Bool.Decides.{nat_tests}
 use Rattle.std.proofs.lemmas.List.{map-append}
 use Rattle.std.proofs.Math.Seq.{take-suc}
-use Rattle.plain_state.specs.declared.slot.SlotId.{SlotId}
-use Rattle.plain_state.specs.Lists.{times}
-use Rattle.core_events.specs.Counts.{one}
-use Rattle.core_law.proofs.Kit.{one_other, one_same, times_none, times_push}
-use Rattle.counted_handles.specs.Handles.{Handle}
-use Rattle.lane_files.specs.Keeping.{slots_of}
+use Rattle.law_lesson.specs.plain_state.declared.slot.SlotId.{SlotId}
+use Rattle.law_lesson.specs.plain_state.Lists.{times}
+use Rattle.domain_audit.specs.core_events.Counts.{one}
+use Rattle.domain_audit.proofs.Below.core_law.Kit.{one_other, one_same, times_none, times_push}
+use Rattle.domain_audit.specs.counted_handles.Handles.{Handle}
+use Rattle.lane_domain.specs.lane_files.Keeping.{slots_of}
 use Rattle.lane_reports.specs.Holders.{AreSlotsOf}
 
 -- the first elements, and one more

@@ -5,13 +5,13 @@ use Rattle.std.specs.Str.{bytes_eq}
 use Rattle.std.specs.Cmp.Lexicographic.{bytes_decides}
 use Rattle.std.proofs.lemmas.List.Elements.{All-append, All-cons, All-map}
 use Rattle.std.proofs.lemmas.List.Sums.{sum_by-cons}
-use Rattle.cdrc_text.specs.Fold.{File, times}
-use Rattle.directory_law.specs.Bytes.{AreBytes, bytes_of_words, low_bytes, part_bytes, piece_bytes, text_bytes}
-use Rattle.directory_law.specs.Payloads.{Text, size}
+use Rattle.tally_sums.specs.cdrc_text.Fold.{File, times}
+use Rattle.words_rest.specs.directory_law.Bytes.{AreBytes, bytes_of_words, low_bytes, part_bytes, piece_bytes, text_bytes}
+use Rattle.words_rest.specs.directory_law.Payloads.{Text, size}
 use Rattle.ticket_shares.specs.Tickets.{IsEachOnce}
 use Rattle.words_rest.proofs.Reported.{small_in}
-use Rattle.lane_files.specs.declared.work.Work.{Work}
-use Rattle.lane_files.specs.Work.{all_tickets, words_of_all}
+use Rattle.lane_domain.specs.lane_files.declared.work.Work.{Work}
+use Rattle.lane_domain.specs.lane_files.Work.{all_tickets, words_of_all}
 use Rattle.lane_domain.specs.Sizes.{texts_in}
 use Rattle.lane_reports.proofs.Occurring.{sum_work, times_both}
 

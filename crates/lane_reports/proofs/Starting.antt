@@ -3,18 +3,18 @@ use Rattle.std.proofs.Common.{◌≡◌, ◌+◌, List, [], refl, sym, ap, subst
 use Rattle.std.specs.Prelude.{length}
 use Rattle.std.proofs.lemmas.List.{length-map}
 use Rattle.std.proofs.lemmas.List.FromFn.{length-range_with_len}
-use Rattle.core_events.specs.declared.shape.Shape.{Shape}
-use Rattle.core_events.specs.declared.view.LeftSeat.{LeftSeat}
-use Rattle.counted_handles.specs.Handles.{Handle}
-use Rattle.acquire_retire.specs.Seats.{SeatState}
-use Rattle.domain_rule.specs.Views.{IsAlone}
-use Rattle.queue_law.specs.declared.view.Taken.{Taken}
-use Rattle.queue_law.specs.Lists.{taken_items}
-use Rattle.words_law.specs.Views.{View}
-use Rattle.lane_files.specs.Passed.{KnowsWords}
-use Rattle.lane_files.proofs.PiecesCounted.{more_none}
-use Rattle.lane_files.specs.declared.work.Work.{Work}
-use Rattle.lane_files.specs.Work.{words_of_all}
+use Rattle.domain_audit.specs.core_events.declared.shape.Shape.{Shape}
+use Rattle.domain_audit.specs.core_events.declared.view.LeftSeat.{LeftSeat}
+use Rattle.domain_audit.specs.counted_handles.Handles.{Handle}
+use Rattle.domain_audit.specs.acquire_retire.Seats.{SeatState}
+use Rattle.domain_audit.specs.domain_rule.Views.{IsAlone}
+use Rattle.words_rest.specs.queue_law.declared.view.Taken.{Taken}
+use Rattle.words_rest.specs.queue_law.Lists.{taken_items}
+use Rattle.words_rest.specs.words_law.Views.{View}
+use Rattle.lane_domain.specs.lane_files.Passed.{KnowsWords}
+use Rattle.lane_domain.proofs.Below.lane_files.PiecesCounted.{more_none}
+use Rattle.lane_domain.specs.lane_files.declared.work.Work.{Work}
+use Rattle.lane_domain.specs.lane_files.Work.{words_of_all}
 use Rattle.lane_reports.specs.declared.done.Done.{Done}
 use Rattle.lane_reports.specs.Gathering.{DrewTickets, HasGathered, IsBare, Tally}
 use Rattle.lane_reports.proofs.Lists.{each_none, words_none}

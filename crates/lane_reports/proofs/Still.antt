@@ -1,17 +1,17 @@
 -- What stays so while a seat takes items and shuts the queue.
 use Rattle.std.proofs.Common.{◌≡◌, ℕ, suc, ◌+◌, List, [], ◌∷◌, refl, sym, ap, subst, ◌∙◌, arith}
 use Rattle.std.specs.Prelude.{length, slice_index_or}
-use Rattle.plain_state.specs.declared.slot.SlotId.{SlotId}
-use Rattle.core_events.specs.declared.view.CoreView.{CoreView}
-use Rattle.core_events.specs.declared.view.Note.{Note}
-use Rattle.core_events.specs.declared.view.Note.TheVariants as note
-use Rattle.core_events.specs.Views.{note_of, snapshots, valid_of}
-use Rattle.acquire_retire.specs.Seats.{SeatState}
-use Rattle.domain_rule.specs.Views.{IsAlone}
-use Rattle.control_word.specs.Resting.{IsUnderNone}
-use Rattle.text_reading.specs.Reading.{HasTwoFree}
-use Rattle.words_law.specs.Views.{View}
-use Rattle.lane_files.specs.Ready.{Owns}
+use Rattle.law_lesson.specs.plain_state.declared.slot.SlotId.{SlotId}
+use Rattle.domain_audit.specs.core_events.declared.view.CoreView.{CoreView}
+use Rattle.domain_audit.specs.core_events.declared.view.Note.{Note}
+use Rattle.domain_audit.specs.core_events.declared.view.Note.TheVariants as note
+use Rattle.domain_audit.specs.core_events.Views.{note_of, snapshots, valid_of}
+use Rattle.domain_audit.specs.acquire_retire.Seats.{SeatState}
+use Rattle.domain_audit.specs.domain_rule.Views.{IsAlone}
+use Rattle.domain_audit.specs.control_word.Resting.{IsUnderNone}
+use Rattle.lane_domain.specs.text_reading.Reading.{HasTwoFree}
+use Rattle.words_rest.specs.words_law.Views.{View}
+use Rattle.lane_domain.specs.lane_files.Ready.{Owns}
 
 module _ (os : List SlotId) (a b : SeatState View) (owns : Owns os a b) where
   pub alone_still : IsAlone a.view → IsAlone b.view

@@ -1,11 +1,11 @@
 -- A take that is refused, after others.
 use Rattle.std.proofs.Common.{ℕ, ◌+◌, ◌<◌, List, [], arith}
-use Rattle.acquire_retire.specs.Seats.{SeatState}
-use Rattle.words_law.specs.Views.{View}
-use Rattle.lane_files.specs.declared.refusal.LaneError.{LaneError}
-use Rattle.lane_files.specs.Passed.{Takes}
-use Rattle.lane_files.specs.Draining.{IsWhyNotDrained}
-use Rattle.lane_files.proofs.PiecesCounted.{takes_more}
+use Rattle.domain_audit.specs.acquire_retire.Seats.{SeatState}
+use Rattle.words_rest.specs.words_law.Views.{View}
+use Rattle.lane_domain.specs.lane_files.declared.refusal.LaneError.{LaneError}
+use Rattle.lane_domain.specs.lane_files.Passed.{Takes}
+use Rattle.lane_domain.specs.lane_files.Draining.{IsWhyNotDrained}
+use Rattle.lane_domain.proofs.Below.lane_files.PiecesCounted.{takes_more}
 
 pub why_after : (k most : ℕ) (error : LaneError) (a b c : SeatState View)
     (r s t : List (List ℕ × ℕ)) → Takes [] k a.view.client b.view.client r s → k < most

@@ -1,19 +1,19 @@
 -- What a seat knows of the records that it keeps, told by views of the directory.
 use Rattle.std.proofs.Common.{◌≡◌, inl, inr, ⊎_elim, ℕ, List, [], ◌∷◌, ◌++◌, refl, arith, length}
-use Rattle.plain_state.specs.declared.slot.SlotId.{SlotId}
-use Rattle.acquire_retire.specs.Seats.{SeatState}
-use Rattle.directory_law.specs.declared.view.View.{View as DirectoryView}
-use Rattle.directory_law.specs.Payloads.{Text}
-use Rattle.weak_intern.specs.Knowing.{Knows}
-use Rattle.words_law.specs.Known.{KnowsMore, KnowsText}
-use Rattle.words_law.specs.Views.{View}
-use Rattle.words_law.proofs.Known.{knows_more}
-use Rattle.lane_files.proofs.Offered.{texts}
-use Rattle.lane_files.specs.declared.work.Work.{Work}
-use Rattle.lane_files.specs.Counting.{KeepsRecords, KnowsEach}
-use Rattle.lane_files.specs.Keeping.{slots_of}
-use Rattle.lane_files.specs.Lanes.{KeepsFiles}
-use Rattle.lane_files.specs.Work.{kept_files}
+use Rattle.law_lesson.specs.plain_state.declared.slot.SlotId.{SlotId}
+use Rattle.domain_audit.specs.acquire_retire.Seats.{SeatState}
+use Rattle.words_rest.specs.directory_law.declared.view.View.{View as DirectoryView}
+use Rattle.words_rest.specs.directory_law.Payloads.{Text}
+use Rattle.lane_domain.specs.weak_intern.Knowing.{Knows}
+use Rattle.words_rest.specs.words_law.Known.{KnowsMore, KnowsText}
+use Rattle.words_rest.specs.words_law.Views.{View}
+use Rattle.words_rest.proofs.Below.words_law.Known.{knows_more}
+use Rattle.lane_domain.proofs.Below.lane_files.Offered.{texts}
+use Rattle.lane_domain.specs.lane_files.declared.work.Work.{Work}
+use Rattle.lane_domain.specs.lane_files.Counting.{KeepsRecords, KnowsEach}
+use Rattle.lane_domain.specs.lane_files.Keeping.{slots_of}
+use Rattle.lane_domain.specs.lane_files.Lanes.{KeepsFiles}
+use Rattle.lane_domain.specs.lane_files.Work.{kept_files}
 use Rattle.lane_reports.specs.declared.done.Done.{Done}
 use Rattle.lane_reports.specs.Deeds.{LaneDeeds}
 use Rattle.lane_reports.specs.Gathering.{TellsLanes, kept_by}

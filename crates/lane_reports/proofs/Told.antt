@@ -1,24 +1,24 @@
 -- A lane that ran from a fresh seat and a new `Lane` did what these tell.
 use Rattle.std.proofs.Common.{◌≡◌, ℕ, List, [], ◌++◌, sym, ap, subst, ◌∙◌, arith}
-use Rattle.core_events.specs.declared.view.CoreView.{CoreView}
-use Rattle.core_events.specs.Views.{note_of, room_of}
-use Rattle.core_law.proofs.Kit.{times_append, times_none}
-use Rattle.counted_handles.specs.Handles.{Handle}
-use Rattle.acquire_retire.specs.Domains.{DomainState}
-use Rattle.acquire_retire.specs.Seats.{SeatState}
-use Rattle.queue_law.specs.declared.view.Item.{Item}
-use Rattle.queue_law.specs.declared.view.Taken.{Taken}
-use Rattle.queue_law.specs.declared.view.View.{View as QueueView}
-use Rattle.words_law.specs.Views.{View}
-use Rattle.words_protocol.specs.declared.law.WordsLaw.{WordsLaw}
-use Rattle.lane_files.specs.Passed.{by_seat}
-use Rattle.lane_files.specs.declared.shared.Shared.{Shared}
-use Rattle.lane_files.specs.Ready.{IsReady}
-use Rattle.lane_files.specs.declared.lane.Lane.{Lane}
-use Rattle.lane_files.specs.declared.work.Work.{Work}
-use Rattle.lane_files.specs.Keeping.{slots_of}
-use Rattle.lane_files.specs.Lanes.{KeepsFiles, RunsLane}
-use Rattle.lane_files.specs.Work.{kept_files}
+use Rattle.domain_audit.specs.core_events.declared.view.CoreView.{CoreView}
+use Rattle.domain_audit.specs.core_events.Views.{note_of, room_of}
+use Rattle.domain_audit.proofs.Below.core_law.Kit.{times_append, times_none}
+use Rattle.domain_audit.specs.counted_handles.Handles.{Handle}
+use Rattle.domain_audit.specs.acquire_retire.Domains.{DomainState}
+use Rattle.domain_audit.specs.acquire_retire.Seats.{SeatState}
+use Rattle.words_rest.specs.queue_law.declared.view.Item.{Item}
+use Rattle.words_rest.specs.queue_law.declared.view.Taken.{Taken}
+use Rattle.words_rest.specs.queue_law.declared.view.View.{View as QueueView}
+use Rattle.words_rest.specs.words_law.Views.{View}
+use Rattle.lane_domain.specs.words_protocol.declared.law.WordsLaw.{WordsLaw}
+use Rattle.lane_domain.specs.lane_files.Passed.{by_seat}
+use Rattle.lane_domain.specs.lane_files.declared.shared.Shared.{Shared}
+use Rattle.lane_domain.specs.lane_files.Ready.{IsReady}
+use Rattle.lane_domain.specs.lane_files.declared.lane.Lane.{Lane}
+use Rattle.lane_domain.specs.lane_files.declared.work.Work.{Work}
+use Rattle.lane_domain.specs.lane_files.Keeping.{slots_of}
+use Rattle.lane_domain.specs.lane_files.Lanes.{KeepsFiles, RunsLane}
+use Rattle.lane_domain.specs.lane_files.Work.{kept_files}
 use Rattle.lane_reports.specs.Deeds.{IsFresh, IsNew, IsTallyOf, LaneDeeds, LaneDid, MayLeave, OwnsJust, PassedItems}
 
 -- what was done, where nothing was done before

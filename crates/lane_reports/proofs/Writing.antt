@@ -4,29 +4,29 @@ use Rattle.std.specs.Prelude.{length, ◌↔◌, map, slice_index_or}
 use Rattle.std.specs.List.{All, Contains}
 use Rattle.std.specs.Map.{keys_of}
 use Rattle.std.proofs.lemmas.List.Elements.{All-head, All-tail}
-use Rattle.plain_state.specs.declared.slot.SlotId.{SlotId}
-use Rattle.plain_state.specs.Lists.{times}
-use Rattle.plain_state.specs.State.{Plain, PlainSeat, no_payload, seat_at}
-use Rattle.plain_protocol.specs.Owns.{Object}
-use Rattle.protocol_pairs.specs.Shares.{FitsItsPart, weight_in_part}
-use Rattle.core_law.proofs.Kit.{times_none}
-use Rattle.acquire_retire.specs.Domains.{DomainState}
-use Rattle.acquire_retire.specs.Seats.{SeatState}
-use Rattle.directory_law.specs.declared.view.View.{View as DirectoryView}
-use Rattle.queue_law.specs.Chain.{Ends}
-use Rattle.directory_law.specs.Cells.{Area}
-use Rattle.directory_law.specs.Bytes.{AreBytes, IsPiece, piece_weight}
-use Rattle.cdrc_text.specs.declared.row.Row.{Row}
-use Rattle.cdrc_text.specs.declared.row.Totals.{Totals}
-use Rattle.cdrc_text.specs.Fold.{File, IsInByteOrder, holders_in, occurrences_in}
-use Rattle.cdrc_text.specs.Report.{report_of}
-use Rattle.cdrc_text.specs.Text.{IsReport, word_of}
-use Rattle.cdrc_text.proofs.Listed.{held-occurs, occurs-held}
-use Rattle.heap_audit.specs.declared.finding.Audit.{Audit}
-use Rattle.words_law.specs.Known.{KnowsMore}
-use Rattle.words_law.specs.Views.{View, gone}
-use Rattle.words_protocol.specs.declared.law.WordsLaw.{WordsLaw}
-use Rattle.words_protocol.specs.Sides.{area_of, ends_of}
+use Rattle.law_lesson.specs.plain_state.declared.slot.SlotId.{SlotId}
+use Rattle.law_lesson.specs.plain_state.Lists.{times}
+use Rattle.law_lesson.specs.plain_state.State.{Plain, PlainSeat, no_payload, seat_at}
+use Rattle.law_lesson.specs.plain_protocol.Owns.{Object}
+use Rattle.words_rest.specs.protocol_pairs.Shares.{FitsItsPart, weight_in_part}
+use Rattle.domain_audit.proofs.Below.core_law.Kit.{times_none}
+use Rattle.domain_audit.specs.acquire_retire.Domains.{DomainState}
+use Rattle.domain_audit.specs.acquire_retire.Seats.{SeatState}
+use Rattle.words_rest.specs.directory_law.declared.view.View.{View as DirectoryView}
+use Rattle.words_rest.specs.queue_law.Chain.{Ends}
+use Rattle.words_rest.specs.directory_law.Cells.{Area}
+use Rattle.words_rest.specs.directory_law.Bytes.{AreBytes, IsPiece, piece_weight}
+use Rattle.tally_sums.specs.cdrc_text.declared.row.Row.{Row}
+use Rattle.tally_sums.specs.cdrc_text.declared.row.Totals.{Totals}
+use Rattle.tally_sums.specs.cdrc_text.Fold.{File, IsInByteOrder, holders_in, occurrences_in}
+use Rattle.tally_sums.specs.cdrc_text.Report.{report_of}
+use Rattle.tally_sums.specs.cdrc_text.Text.{IsReport, word_of}
+use Rattle.tally_sums.proofs.Below.cdrc_text.Listed.{held-occurs, occurs-held}
+use Rattle.words_rest.specs.heap_audit.declared.finding.Audit.{Audit}
+use Rattle.words_rest.specs.words_law.Known.{KnowsMore}
+use Rattle.words_rest.specs.words_law.Views.{View, gone}
+use Rattle.lane_domain.specs.words_protocol.declared.law.WordsLaw.{WordsLaw}
+use Rattle.lane_domain.specs.words_protocol.Sides.{area_of, ends_of}
 use Rattle.words_rest.specs.Kept.{KeepsRecordsOf, TellsFiles, TellsWord}
 use Rattle.words_rest.specs.Nodes.{HasNoNode}
 use Rattle.words_rest.specs.Records.{FindsRecords}
@@ -37,9 +37,9 @@ use Rattle.words_rest.proofs.Living.{none_cyclic, none_deferred, none_lives}
 use Rattle.words_rest.proofs.NoNode.{no_node_audited}
 use Rattle.words_rest.proofs.Reported.{is_report}
 use Rattle.words_rest.proofs.Sums.{no_bytes, no_slots}
-use Rattle.lane_files.specs.declared.work.Work.{Work}
-use Rattle.lane_files.specs.Work.{IsWork, kept_files}
-use Rattle.lane_files.specs.Files.{pieces_in}
+use Rattle.lane_domain.specs.lane_files.declared.work.Work.{Work}
+use Rattle.lane_domain.specs.lane_files.Work.{IsWork, kept_files}
+use Rattle.lane_domain.specs.lane_files.Files.{pieces_in}
 use Rattle.lane_domain.specs.Sizes.{all_pieces, texts_in}
 use Rattle.std.proofs.lemmas.List.{length-map}
 use Rattle.lane_reports.specs.declared.records.WordRecord.{WordRecord}

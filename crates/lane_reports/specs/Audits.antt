@@ -1,19 +1,19 @@
 -- An audit of a whole state at rest, of which the law holds.
 use Rattle.std.specs.Prelude.{◌≡◌, ℕ, ◌<◌, true, List, []}
-use Rattle.heap_audit.specs.declared.finding.Audit.{Audit}
-use Rattle.plain_audit.specs.Audits.{IsAudit}
-use Rattle.plain_state.specs.declared.slot.SlotId.{SlotId}
-use Rattle.plain_state.specs.Lists.{times}
-use Rattle.plain_state.specs.State.{Plain, seat_at, slot_at}
-use Rattle.plain_protocol.specs.Owns.{is_alone, object_of}
-use Rattle.core_events.specs.Shows.{show_seat}
-use Rattle.domain_rule.specs.Views.{object_in}
-use Rattle.acquire_retire.specs.Domains.{DomainState}
-use Rattle.acquire_retire.specs.Seats.{SeatState}
-use Rattle.acquire_retire.specs.Wholes.{KnowsState}
+use Rattle.words_rest.specs.heap_audit.declared.finding.Audit.{Audit}
+use Rattle.words_rest.specs.plain_audit.Audits.{IsAudit}
+use Rattle.law_lesson.specs.plain_state.declared.slot.SlotId.{SlotId}
+use Rattle.law_lesson.specs.plain_state.Lists.{times}
+use Rattle.law_lesson.specs.plain_state.State.{Plain, seat_at, slot_at}
+use Rattle.law_lesson.specs.plain_protocol.Owns.{is_alone, object_of}
+use Rattle.domain_audit.specs.core_events.Shows.{show_seat}
+use Rattle.domain_audit.specs.domain_rule.Views.{object_in}
+use Rattle.domain_audit.specs.acquire_retire.Domains.{DomainState}
+use Rattle.domain_audit.specs.acquire_retire.Seats.{SeatState}
+use Rattle.domain_audit.specs.acquire_retire.Wholes.{KnowsState}
 use Rattle.law_lesson.specs.Lessons.{HoldsOf}
-use Rattle.words_law.specs.Views.{View, gone}
-use Rattle.words_protocol.specs.declared.law.WordsLaw.{WordsLaw}
+use Rattle.words_rest.specs.words_law.Views.{View, gone}
+use Rattle.lane_domain.specs.words_protocol.declared.law.WordsLaw.{WordsLaw}
 use Rattle.words_rest.specs.Rest.{HasNullCells, Rests}
 use Rattle.lane_reports.specs.Holders.{law_of}
 

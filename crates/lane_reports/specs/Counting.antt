@@ -1,13 +1,13 @@
 -- What the lanes and seat 0 counted together.
 use Rattle.std.specs.Prelude.{ℕ, ◌≡◌, List, ◌∷◌, ◌++◌}
-use Rattle.acquire_retire.specs.Seats.{SeatState}
-use Rattle.queue_law.specs.declared.view.Item.{Item}
-use Rattle.queue_law.specs.Lists.{taken_items}
-use Rattle.words_law.specs.Views.{View}
+use Rattle.domain_audit.specs.acquire_retire.Seats.{SeatState}
+use Rattle.words_rest.specs.queue_law.declared.view.Item.{Item}
+use Rattle.words_rest.specs.queue_law.Lists.{taken_items}
+use Rattle.words_rest.specs.words_law.Views.{View}
 use Rattle.ticket_shares.specs.Tickets.{together}
-use Rattle.lane_files.specs.Passed.{KnowsWords, by_seat}
-use Rattle.lane_files.specs.declared.work.Work.{Work}
-use Rattle.lane_files.specs.Work.{words_of_all}
+use Rattle.lane_domain.specs.lane_files.Passed.{KnowsWords, by_seat}
+use Rattle.lane_domain.specs.lane_files.declared.work.Work.{Work}
+use Rattle.lane_domain.specs.lane_files.Work.{words_of_all}
 use Rattle.lane_reports.specs.Deeds.{IsTallyOf, LaneDeeds}
 use Rattle.lane_reports.specs.Gathering.{AreTallies, DrewTickets, Tally, each_by, shares_of, words_popped}
 

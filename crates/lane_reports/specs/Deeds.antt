@@ -1,24 +1,24 @@
 -- What a lane that has run did, by its last seat and its `Lane` alone.
 use Rattle.std.specs.Prelude.{ℕ, ◌≡◌, ◌<◌, List, [], length}
-use Rattle.cdrc_text.specs.Fold.{times}
-use Rattle.cdrc_text.specs.Tally.{count_of, total_of}
-use Rattle.plain_state.specs.declared.slot.SlotId.{SlotId}
-use Rattle.plain_state.specs.Lists.{times as slot_times}
-use Rattle.core_events.specs.Views.{room_of}
-use Rattle.acquire_retire.specs.Domains.{DomainState}
-use Rattle.acquire_retire.specs.Seats.{SeatState}
-use Rattle.control_word.specs.Resting.{IsAtRest, IsUnderNone}
-use Rattle.directory_calls.specs.Directories.{HasQuota}
-use Rattle.queue_law.specs.declared.view.Item.{Item}
-use Rattle.words_law.specs.Views.{View}
-use Rattle.words_protocol.specs.declared.law.WordsLaw.{WordsLaw}
+use Rattle.tally_sums.specs.cdrc_text.Fold.{times}
+use Rattle.tally_sums.specs.cdrc_text.Tally.{count_of, total_of}
+use Rattle.law_lesson.specs.plain_state.declared.slot.SlotId.{SlotId}
+use Rattle.law_lesson.specs.plain_state.Lists.{times as slot_times}
+use Rattle.domain_audit.specs.core_events.Views.{room_of}
+use Rattle.domain_audit.specs.acquire_retire.Domains.{DomainState}
+use Rattle.domain_audit.specs.acquire_retire.Seats.{SeatState}
+use Rattle.domain_audit.specs.control_word.Resting.{IsAtRest, IsUnderNone}
+use Rattle.lane_domain.specs.directory_calls.Directories.{HasQuota}
+use Rattle.words_rest.specs.queue_law.declared.view.Item.{Item}
+use Rattle.words_rest.specs.words_law.Views.{View}
+use Rattle.lane_domain.specs.words_protocol.declared.law.WordsLaw.{WordsLaw}
 use Rattle.ticket_shares.specs.Tickets.{IsShare}
-use Rattle.lane_files.specs.Passed.{KnowsWords, by_seat}
-use Rattle.lane_files.specs.declared.lane.Lane.{Lane}
-use Rattle.lane_files.specs.declared.work.Work.{Work}
-use Rattle.lane_files.specs.Keeping.{slots_of}
-use Rattle.lane_files.specs.Lanes.{KeepsFiles}
-use Rattle.lane_files.specs.Work.{all_tickets, kept_files, words_of_all}
+use Rattle.lane_domain.specs.lane_files.Passed.{KnowsWords, by_seat}
+use Rattle.lane_domain.specs.lane_files.declared.lane.Lane.{Lane}
+use Rattle.lane_domain.specs.lane_files.declared.work.Work.{Work}
+use Rattle.lane_domain.specs.lane_files.Keeping.{slots_of}
+use Rattle.lane_domain.specs.lane_files.Lanes.{KeepsFiles}
+use Rattle.lane_domain.specs.lane_files.Work.{all_tickets, kept_files, words_of_all}
 
 -- what a lane did: its tickets of files, the items that it pushed and popped, and the words of those that it popped
 pub record LaneDeeds : Type 0 where

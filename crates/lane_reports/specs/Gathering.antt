@@ -1,27 +1,27 @@
 -- What seat 0 has once the seats of lanes have left.
 use Rattle.std.specs.Prelude.{ℕ, ◌≡◌, ◌<◌, ◌+◌, List, [], ◌∷◌, ◌++◌, length, map}
 use Rattle.std.specs.List.{flat_map, range_with_len, sum_by}
-use Rattle.plain_state.specs.declared.slot.SlotId.{SlotId}
-use Rattle.plain_state.specs.Lists.{times}
-use Rattle.core_events.specs.declared.view.CoreView.{CoreView}
-use Rattle.core_events.specs.declared.view.LeftSeat.{LeftSeat}
-use Rattle.counted_handles.specs.Handles.{Handle}
-use Rattle.acquire_retire.specs.Domains.{DomainState}
-use Rattle.acquire_retire.specs.Seats.{SeatState}
-use Rattle.control_word.specs.Resting.{IsUnderNone}
-use Rattle.directory_law.specs.declared.view.View.{View as DirectoryView}
-use Rattle.queue_law.specs.declared.view.Item.{Item}
-use Rattle.queue_law.specs.declared.view.Taken.{Taken}
-use Rattle.queue_law.specs.declared.view.View.{View as QueueView}
-use Rattle.queue_law.specs.Lists.{taken_items}
-use Rattle.words_law.specs.Known.{ForgetsNothing}
-use Rattle.words_law.specs.Views.{View}
-use Rattle.words_protocol.specs.declared.law.WordsLaw.{WordsLaw}
+use Rattle.law_lesson.specs.plain_state.declared.slot.SlotId.{SlotId}
+use Rattle.law_lesson.specs.plain_state.Lists.{times}
+use Rattle.domain_audit.specs.core_events.declared.view.CoreView.{CoreView}
+use Rattle.domain_audit.specs.core_events.declared.view.LeftSeat.{LeftSeat}
+use Rattle.domain_audit.specs.counted_handles.Handles.{Handle}
+use Rattle.domain_audit.specs.acquire_retire.Domains.{DomainState}
+use Rattle.domain_audit.specs.acquire_retire.Seats.{SeatState}
+use Rattle.domain_audit.specs.control_word.Resting.{IsUnderNone}
+use Rattle.words_rest.specs.directory_law.declared.view.View.{View as DirectoryView}
+use Rattle.words_rest.specs.queue_law.declared.view.Item.{Item}
+use Rattle.words_rest.specs.queue_law.declared.view.Taken.{Taken}
+use Rattle.words_rest.specs.queue_law.declared.view.View.{View as QueueView}
+use Rattle.words_rest.specs.queue_law.Lists.{taken_items}
+use Rattle.words_rest.specs.words_law.Known.{ForgetsNothing}
+use Rattle.words_rest.specs.words_law.Views.{View}
+use Rattle.lane_domain.specs.words_protocol.declared.law.WordsLaw.{WordsLaw}
 use Rattle.ticket_shares.specs.Tickets.{AreLanes, together}
-use Rattle.lane_files.specs.Passed.{KnowsWords, by_seat}
-use Rattle.lane_files.specs.declared.work.Work.{Work}
-use Rattle.lane_files.specs.Keeping.{slots_of}
-use Rattle.lane_files.specs.Work.{all_tickets, kept_files, words_of_all}
+use Rattle.lane_domain.specs.lane_files.Passed.{KnowsWords, by_seat}
+use Rattle.lane_domain.specs.lane_files.declared.work.Work.{Work}
+use Rattle.lane_domain.specs.lane_files.Keeping.{slots_of}
+use Rattle.lane_domain.specs.lane_files.Work.{all_tickets, kept_files, words_of_all}
 use Rattle.lane_reports.specs.declared.done.Done.{Done}
 use Rattle.lane_reports.specs.declared.done.Gathered.{Gathered}
 use Rattle.lane_reports.specs.Deeds.{IsTallyOf, LaneDeeds, LaneDid, OwnsJust}

@@ -1,24 +1,24 @@
 -- A seat that is alone, and how many references it counts.
 use Rattle.std.specs.Prelude.{◌≡◌, ◌<◌, ◌↔◌, Bool, true, false, ℕ, List, slice_index_or, Some}
-use Rattle.plain_state.specs.declared.slot.SlotId.{SlotId}
-use Rattle.plain_state.specs.Lists.{times}
-use Rattle.plain_state.specs.References.{strong_refs}
-use Rattle.plain_state.specs.State.{Plain}
-use Rattle.core_events.specs.Steps.{HasRoom}
-use Rattle.counted_handles.specs.Handles.{Handle}
-use Rattle.domain_rule.specs.Views.{IsAlone, own_of}
-use Rattle.acquire_retire.specs.Domains.{DomainState}
-use Rattle.acquire_retire.specs.Seats.{SeatState}
-use Rattle.control_word.specs.Resting.{IsAtRest}
-use Rattle.directory_calls.specs.Directories.{HasQuota, IsOver}
-use Rattle.directory_law.specs.declared.view.View.{View as DirectoryView}
-use Rattle.lane_files.specs.Keeping.{slots_of}
-use Rattle.text_reading.specs.Reading.{HasTwoFree}
-use Rattle.lane_files.specs.declared.shared.Shared.{Shared}
-use Rattle.words_law.specs.Law.{WordsLaw as Law}
-use Rattle.words_law.specs.Views.{View}
-use Rattle.words_protocol.specs.declared.law.WordsLaw.{WordsLaw}
-use Rattle.words_protocol.specs.Sides.{area_of, ends_of}
+use Rattle.law_lesson.specs.plain_state.declared.slot.SlotId.{SlotId}
+use Rattle.law_lesson.specs.plain_state.Lists.{times}
+use Rattle.law_lesson.specs.plain_state.References.{strong_refs}
+use Rattle.law_lesson.specs.plain_state.State.{Plain}
+use Rattle.domain_audit.specs.core_events.Steps.{HasRoom}
+use Rattle.domain_audit.specs.counted_handles.Handles.{Handle}
+use Rattle.domain_audit.specs.domain_rule.Views.{IsAlone, own_of}
+use Rattle.domain_audit.specs.acquire_retire.Domains.{DomainState}
+use Rattle.domain_audit.specs.acquire_retire.Seats.{SeatState}
+use Rattle.domain_audit.specs.control_word.Resting.{IsAtRest}
+use Rattle.lane_domain.specs.directory_calls.Directories.{HasQuota, IsOver}
+use Rattle.words_rest.specs.directory_law.declared.view.View.{View as DirectoryView}
+use Rattle.lane_domain.specs.lane_files.Keeping.{slots_of}
+use Rattle.lane_domain.specs.text_reading.Reading.{HasTwoFree}
+use Rattle.lane_domain.specs.lane_files.declared.shared.Shared.{Shared}
+use Rattle.words_rest.specs.words_law.Law.{WordsLaw as Law}
+use Rattle.words_rest.specs.words_law.Views.{View}
+use Rattle.lane_domain.specs.words_protocol.declared.law.WordsLaw.{WordsLaw}
+use Rattle.lane_domain.specs.words_protocol.Sides.{area_of, ends_of}
 
 -- the mark of this slot stands
 abbrev pub has : List Bool → SlotId → Bool

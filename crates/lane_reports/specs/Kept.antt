@@ -1,9 +1,9 @@
 -- In which lives a seat has its slots.
 use Rattle.std.specs.Prelude.{ℕ}
-use Rattle.plain_state.specs.declared.slot.SlotId.{SlotId}
-use Rattle.domain_rule.specs.Views.{object_in}
-use Rattle.acquire_retire.specs.Seats.{SeatState}
-use Rattle.words_law.specs.Views.{View}
+use Rattle.law_lesson.specs.plain_state.declared.slot.SlotId.{SlotId}
+use Rattle.domain_audit.specs.domain_rule.Views.{object_in}
+use Rattle.domain_audit.specs.acquire_retire.Seats.{SeatState}
+use Rattle.words_rest.specs.words_law.Views.{View}
 
 -- in which life the seat has each slot
 abbrev pub lives_in : SeatState View → SlotId → ℕ

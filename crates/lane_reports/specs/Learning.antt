@@ -1,24 +1,24 @@
 -- What a seat that is alone learns of the law.
 use Rattle.std.specs.Prelude.{ℕ, ◌≡◌, List, ◌∷◌, ◌++◌, [], Some, None, map}
-use Rattle.plain_state.specs.declared.act.EventPlace.TheVariants.{Cell}
-use Rattle.plain_state.specs.Places.{content}
-use Rattle.plain_state.specs.declared.slot.SlotId.{SlotId}
-use Rattle.plain_state.specs.State.{Plain, slot_at}
-use Rattle.plain_protocol.specs.Owns.{HasSlot, object_of}
-use Rattle.core_events.specs.declared.view.CoreView.{CoreView}
-use Rattle.core_events.specs.declared.view.LeftSeat.{LeftSeat}
-use Rattle.core_events.specs.declared.view.Move.{Move}
-use Rattle.core_events.specs.Shows.{show_seat, shows}
+use Rattle.law_lesson.specs.plain_state.declared.act.EventPlace.TheVariants.{Cell}
+use Rattle.law_lesson.specs.plain_state.Places.{content}
+use Rattle.law_lesson.specs.plain_state.declared.slot.SlotId.{SlotId}
+use Rattle.law_lesson.specs.plain_state.State.{Plain, slot_at}
+use Rattle.law_lesson.specs.plain_protocol.Owns.{HasSlot, object_of}
+use Rattle.domain_audit.specs.core_events.declared.view.CoreView.{CoreView}
+use Rattle.domain_audit.specs.core_events.declared.view.LeftSeat.{LeftSeat}
+use Rattle.domain_audit.specs.core_events.declared.view.Move.{Move}
+use Rattle.domain_audit.specs.core_events.Shows.{show_seat, shows}
 use Rattle.domain_audit.specs.Audits.{KnowsLone}
-use Rattle.domain_rule.specs.Views.{object_in, own_of}
-use Rattle.acquire_retire.specs.Domains.{DomainState}
-use Rattle.acquire_retire.specs.Seats.{SeatState}
-use Rattle.acquire_retire.specs.Wholes.{known_core}
-use Rattle.control_word.specs.Moves.{KnowsStill}
+use Rattle.domain_audit.specs.domain_rule.Views.{object_in, own_of}
+use Rattle.domain_audit.specs.acquire_retire.Domains.{DomainState}
+use Rattle.domain_audit.specs.acquire_retire.Seats.{SeatState}
+use Rattle.domain_audit.specs.acquire_retire.Wholes.{known_core}
+use Rattle.domain_audit.specs.control_word.Moves.{KnowsStill}
 use Rattle.ticket_shares.specs.Tickets.{DrewOnce}
 use Rattle.law_lesson.specs.Lessons.{HoldsOf}
-use Rattle.words_law.specs.Views.{View, gone}
-use Rattle.words_protocol.specs.declared.law.WordsLaw.{WordsLaw}
+use Rattle.words_rest.specs.words_law.Views.{View, gone}
+use Rattle.lane_domain.specs.words_protocol.declared.law.WordsLaw.{WordsLaw}
 use Rattle.lane_reports.specs.Holders.{law_of}
 
 -- in the whole state, where the seat knows it, this strong cell is null

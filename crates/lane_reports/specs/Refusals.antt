@@ -1,20 +1,20 @@
 -- Why nothing was counted.
 use Rattle.std.specs.Prelude.{ℕ, ◌≡◌, ◌⊎◌, ◌<◌, ◌+◌, ◌*◌, List, ◌∷◌, ◌++◌, Option, Some, None, Err}
-use Rattle.acquire_retire.specs.Domains.{DomainState}
-use Rattle.acquire_retire.specs.Seats.{SeatState}
-use Rattle.control_word.specs.Resting.{IsSpent}
-use Rattle.slot_store.specs.declared.making.MakeError.{MakeError}
-use Rattle.slot_store.specs.declared.making.MakeError.TheVariants as unmade
-use Rattle.queue_law.specs.declared.view.Form.{Form}
-use Rattle.words_law.specs.Views.{View}
-use Rattle.words_protocol.specs.declared.law.WordsLaw.{WordsLaw}
-use Rattle.lane_files.specs.declared.lane.Lane.{Lane}
-use Rattle.lane_files.specs.declared.refusal.LaneStop.{LaneStop}
-use Rattle.lane_files.specs.declared.work.Work.{Work}
-use Rattle.lane_files.specs.Lanes.{StopsLane}
-use Rattle.lane_files.specs.Makes.{cause_of}
-use Rattle.lane_files.specs.Owning.{OwnsNoNode}
-use Rattle.lane_files.specs.Scans.{HasScanned}
+use Rattle.domain_audit.specs.acquire_retire.Domains.{DomainState}
+use Rattle.domain_audit.specs.acquire_retire.Seats.{SeatState}
+use Rattle.domain_audit.specs.control_word.Resting.{IsSpent}
+use Rattle.domain_audit.specs.slot_store.declared.making.MakeError.{MakeError}
+use Rattle.domain_audit.specs.slot_store.declared.making.MakeError.TheVariants as unmade
+use Rattle.words_rest.specs.queue_law.declared.view.Form.{Form}
+use Rattle.words_rest.specs.words_law.Views.{View}
+use Rattle.lane_domain.specs.words_protocol.declared.law.WordsLaw.{WordsLaw}
+use Rattle.lane_domain.specs.lane_files.declared.lane.Lane.{Lane}
+use Rattle.lane_domain.specs.lane_files.declared.refusal.LaneStop.{LaneStop}
+use Rattle.lane_domain.specs.lane_files.declared.work.Work.{Work}
+use Rattle.lane_domain.specs.lane_files.Lanes.{StopsLane}
+use Rattle.lane_domain.specs.lane_files.Makes.{cause_of}
+use Rattle.lane_domain.specs.lane_files.Owning.{OwnsNoNode}
+use Rattle.lane_domain.specs.lane_files.Scans.{HasScanned}
 use Rattle.lane_domain.specs.Opened.{FindsNoSlot, IsDomainFor}
 use Rattle.lane_domain.specs.Sizes.{all_parts, all_pieces}
 use Rattle.lane_reports.specs.declared.done.Done.{Done}

@@ -1,20 +1,20 @@
 -- What is answered.
 use Rattle.std.specs.Prelude.{ℕ, ◌≡◌, List, []}
 use Rattle.std.specs.List.{All}
-use Rattle.plain_state.specs.declared.slot.SlotId.{SlotId}
-use Rattle.plain_state.specs.Lists.{times}
-use Rattle.cdrc_text.specs.Fold.{File, occurrences_in}
-use Rattle.directory_law.specs.Bytes.{AreBytes}
-use Rattle.counted_handles.specs.Handles.{Handle}
-use Rattle.core_events.specs.declared.view.CoreView.{CoreView}
-use Rattle.domain_rule.specs.Views.{IsAlone}
-use Rattle.acquire_retire.specs.Seats.{SeatState}
-use Rattle.words_law.specs.Views.{View}
+use Rattle.law_lesson.specs.plain_state.declared.slot.SlotId.{SlotId}
+use Rattle.law_lesson.specs.plain_state.Lists.{times}
+use Rattle.tally_sums.specs.cdrc_text.Fold.{File, occurrences_in}
+use Rattle.words_rest.specs.directory_law.Bytes.{AreBytes}
+use Rattle.domain_audit.specs.counted_handles.Handles.{Handle}
+use Rattle.domain_audit.specs.core_events.declared.view.CoreView.{CoreView}
+use Rattle.domain_audit.specs.domain_rule.Views.{IsAlone}
+use Rattle.domain_audit.specs.acquire_retire.Seats.{SeatState}
+use Rattle.words_rest.specs.words_law.Views.{View}
 use Rattle.words_rest.specs.Kept.{TellsFiles}
 use Rattle.ticket_shares.specs.Tickets.{IsEachOnce}
-use Rattle.lane_files.specs.declared.work.Work.{Work}
-use Rattle.lane_files.specs.Keeping.{slots_of}
-use Rattle.lane_files.specs.Work.{all_tickets, kept_files}
+use Rattle.lane_domain.specs.lane_files.declared.work.Work.{Work}
+use Rattle.lane_domain.specs.lane_files.Keeping.{slots_of}
+use Rattle.lane_domain.specs.lane_files.Work.{all_tickets, kept_files}
 use Rattle.lane_domain.specs.Opened.{shape_for}
 use Rattle.lane_domain.specs.Sizes.{texts_in}
 use Rattle.lane_reports.specs.Kept.{lives_in}

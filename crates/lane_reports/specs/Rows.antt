@@ -1,13 +1,13 @@
 -- The record and the row of a word, as a seat that is alone tells them.
 use Rattle.std.specs.Prelude.{◌≡◌, ◌^◌, ◌<◌, ◌≤◌, ℕ, List, [], ◌∷◌, length, map}
-use Rattle.plain_state.specs.declared.slot.SlotId.{SlotId}
-use Rattle.plain_state.specs.Lists.{times}
-use Rattle.plain_state.specs.References.{strong_refs}
-use Rattle.plain_state.specs.State.{Plain}
-use Rattle.cdrc_text.specs.declared.row.Row.{Row}
-use Rattle.acquire_retire.specs.Seats.{SeatState}
-use Rattle.control_word.specs.Resting.{IsSpent}
-use Rattle.words_law.specs.Views.{View}
+use Rattle.law_lesson.specs.plain_state.declared.slot.SlotId.{SlotId}
+use Rattle.law_lesson.specs.plain_state.Lists.{times}
+use Rattle.law_lesson.specs.plain_state.References.{strong_refs}
+use Rattle.law_lesson.specs.plain_state.State.{Plain}
+use Rattle.tally_sums.specs.cdrc_text.declared.row.Row.{Row}
+use Rattle.domain_audit.specs.acquire_retire.Seats.{SeatState}
+use Rattle.domain_audit.specs.control_word.Resting.{IsSpent}
+use Rattle.words_rest.specs.words_law.Views.{View}
 use Rattle.words_rest.specs.Kept.{TellsWord}
 use Rattle.lane_reports.specs.declared.records.WordRecord.{WordRecord}
 use Rattle.lane_reports.specs.declared.refusal.RowsError.{RowsError}

@@ -1,14 +1,14 @@
 -- What seat 0 has once it has shut the queue and settled.
 use Rattle.std.specs.Prelude.{◌≡◌, []}
-use Rattle.acquire_retire.specs.Domains.{DomainState}
-use Rattle.acquire_retire.specs.Seats.{SeatState}
-use Rattle.linked_queue.specs.Queues.{ends_of}
-use Rattle.linked_queue.specs.Shuts.{shut_in}
-use Rattle.slot_store.specs.Leftovers.{LeavesCycles}
-use Rattle.words_law.specs.Views.{View}
-use Rattle.words_protocol.specs.declared.law.WordsLaw.{WordsLaw}
-use Rattle.lane_files.specs.Ready.{Owns}
-use Rattle.lane_files.specs.Whys.{of_queue, queue_of}
+use Rattle.domain_audit.specs.acquire_retire.Domains.{DomainState}
+use Rattle.domain_audit.specs.acquire_retire.Seats.{SeatState}
+use Rattle.lane_domain.specs.linked_queue.Queues.{ends_of}
+use Rattle.lane_domain.specs.linked_queue.Shuts.{shut_in}
+use Rattle.domain_audit.specs.slot_store.Leftovers.{LeavesCycles}
+use Rattle.words_rest.specs.words_law.Views.{View}
+use Rattle.lane_domain.specs.words_protocol.declared.law.WordsLaw.{WordsLaw}
+use Rattle.lane_domain.specs.lane_files.Ready.{Owns}
+use Rattle.lane_domain.specs.lane_files.Whys.{of_queue, queue_of}
 
 -- Of the queue it has noted what was left, in the state that it knew then; of the directory it knows what it knew. It
 -- has nothing retired, dying or ripe, and only cycles are left beside what it owns. What it owns, and what it has

@@ -1,11 +1,11 @@
 -- What seat 0 pops that no lane popped.
 use Rattle.std.specs.Prelude.{ℕ, ◌≡◌, ◌≤◌, ◌+◌, ◌*◌, List, [], ◌∷◌}
 use Rattle.std.specs.List.{sum_by}
-use Rattle.acquire_retire.specs.Seats.{SeatState}
-use Rattle.words_law.specs.Views.{View}
-use Rattle.cdrc_text.specs.Tally.{count_of, total_of}
-use Rattle.lane_files.specs.Passed.{Takes}
-use Rattle.lane_files.specs.declared.work.Work.{Work}
+use Rattle.domain_audit.specs.acquire_retire.Seats.{SeatState}
+use Rattle.words_rest.specs.words_law.Views.{View}
+use Rattle.tally_sums.specs.cdrc_text.Tally.{count_of, total_of}
+use Rattle.lane_domain.specs.lane_files.Passed.{Takes}
+use Rattle.lane_domain.specs.lane_files.declared.work.Work.{Work}
 use Rattle.lane_domain.specs.Sizes.{all_pieces}
 use Rattle.tally_sums.specs.Sums.{Tallies}
 

@@ -1,31 +1,25 @@
 //! The audits before and after seat 0 gives up what it keeps.
 ghost use Rattle.std.specs.Prelude.{◌≡◌, [], ℕ, IfOk, IfSome, OnOk, length};
-ghost use Rattle.core_events.specs.Steps.{HasRoom};
-ghost use Rattle.core_events.specs.Views.{snapshots};
-ghost use Rattle.control_word.specs.Resting.{IsAtRest};
-ghost use Rattle.deleter.specs.Weighing.{Weighs};
-ghost use Rattle.domain_rule.specs.Views.{IsAlone};
-ghost use Rattle.plain_state.specs.declared.slot.SlotId.{SlotId};
-ghost use Rattle.plain_state.specs.Lists.{times};
-ghost use Rattle.acquire_retire.specs.Collecting.{rest_of};
+ghost use Rattle.domain_audit.specs.core_events.Steps.{HasRoom};
+ghost use Rattle.domain_audit.specs.core_events.Views.{snapshots};
+ghost use Rattle.domain_audit.specs.control_word.Resting.{IsAtRest};
+ghost use Rattle.words_rest.specs.deleter.Weighing.{Weighs};
+ghost use Rattle.domain_audit.specs.domain_rule.Views.{IsAlone};
+ghost use Rattle.law_lesson.specs.plain_state.declared.slot.SlotId.{SlotId};
+ghost use Rattle.law_lesson.specs.plain_state.Lists.{times};
+ghost use Rattle.domain_audit.specs.acquire_retire.Collecting.{rest_of};
 ghost use Rattle.lane_reports.specs.Audits.{IsAudited, KnowsOwned};
 ghost use Rattle.words_rest.specs.Written.{line_of};
 ghost use Rattle.lane_reports.specs.Reporting.{HasNothingDeferred};
 
 use crate::learning::holds_nothing;
-use acquire_retire::{Domain, Seat};
-use cdrc_text::AuditLine;
-use deleter::Deleter;
-use directory_protocol::RecordKind;
-use domain_audit::{Audit, audit_domain_in};
-use out_of_memory::OutOfMemory;
-use plain_state::{Heap, PayloadKind};
-use protocol_pairs::PairKind;
-use queue_protocol::NodeKind;
-use slot_store::settle;
+use domain_audit::{Audit, Domain, Seat, audit_domain_in, settle};
+use lane_domain::{NodeKind, RecordKind, WordsLaw};
+use law_lesson::{Heap, PayloadKind};
 use std::alloc::Global;
 use std::sync::Wait;
-use words_protocol::WordsLaw;
+use tally_sums::{AuditLine, OutOfMemory};
+use words_rest::{Deleter, PairKind};
 
 /// The numbers of an audit, without the walk round a cycle.
 pub(crate) fn audit_line(found: &Audit) -> AuditLine

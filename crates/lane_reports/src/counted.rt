@@ -2,10 +2,9 @@
 ghost use Rattle.std.specs.Prelude.{◌≡◌};
 ghost use Rattle.lane_reports.specs.declared.counted.CountError.TheVariants as refused;
 
-use acquire_retire::Seat;
-use cdrc_text::Tally;
-use out_of_memory::OutOfMemory as NoMemory;
-use words_protocol::WordsLaw;
+use domain_audit::Seat;
+use lane_domain::WordsLaw;
+use tally_sums::{OutOfMemory as NoMemory, Tally};
 
 /// What was counted.
 #[derive(Drop)]

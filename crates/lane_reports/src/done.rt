@@ -1,9 +1,7 @@
 //! A lane that has run, and what is gathered of all of them.
-use acquire_retire::Seat;
-use cdrc_text::Tally;
-use counted_handles::Strong;
-use lane_files::Lane;
-use words_protocol::WordsLaw;
+use domain_audit::{Seat, Strong};
+use lane_domain::{Lane, WordsLaw};
+use tally_sums::Tally;
 
 /// The seat of a lane that has run, and what the lane has beside it.
 #[derive(Drop)]

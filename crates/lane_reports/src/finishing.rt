@@ -1,14 +1,14 @@
 //! What seat 0 does once all lanes ran to their end.
 ghost use Rattle.std.specs.Prelude.{◌≡◌, ◌+◌, ◌≤◌, [], IfErr, IfOk, OnOk, length};
-ghost use Rattle.cdrc_text.specs.Text.{IsReport};
-ghost use Rattle.core_events.specs.Views.{snapshots};
-ghost use Rattle.control_word.specs.Resting.{IsAtRest};
-ghost use Rattle.deleter.specs.Weighing.{Weighs};
-ghost use Rattle.domain_rule.specs.Views.{IsAlone};
+ghost use Rattle.tally_sums.specs.cdrc_text.Text.{IsReport};
+ghost use Rattle.domain_audit.specs.core_events.Views.{snapshots};
+ghost use Rattle.domain_audit.specs.control_word.Resting.{IsAtRest};
+ghost use Rattle.words_rest.specs.deleter.Weighing.{Weighs};
+ghost use Rattle.domain_audit.specs.domain_rule.Views.{IsAlone};
 ghost use Rattle.lane_domain.specs.Sizes.{IsWithinLimits, texts_in};
-ghost use Rattle.lane_files.specs.Work.{IsWork};
-ghost use Rattle.lane_files.specs.Ready.{IsReady};
-ghost use Rattle.words_law.specs.Known.{ForgetsNothing};
+ghost use Rattle.lane_domain.specs.lane_files.Work.{IsWork};
+ghost use Rattle.lane_domain.specs.lane_files.Ready.{IsReady};
+ghost use Rattle.words_rest.specs.words_law.Known.{ForgetsNothing};
 ghost use Rattle.lane_reports.specs.Counting.{CountsAll};
 ghost use Rattle.lane_reports.specs.Gathering.{EachDid, IsBare};
 ghost use Rattle.lane_reports.specs.Holders.{IsRoot};
@@ -25,20 +25,14 @@ use crate::refusal::RowsError;
 use crate::rows::count_rows;
 use crate::shutting::shut_and_settle;
 use crate::taking::take_rest;
-use acquire_retire::{Domain, Seat, empty_image};
-use cdrc_text::{Tally, Totals, report};
-use counted_handles::Strong;
-use deleter::Deleter;
-use directory_protocol::RecordKind;
-use lane_domain::count_pieces;
-use lane_files::{Shared, Work};
-use plain_state::PayloadKind;
-use protocol_pairs::PairKind;
-use queue_protocol::NodeKind;
+use domain_audit::{Domain, Seat, Strong, empty_image};
+use lane_domain::{NodeKind, RecordKind, Shared, WordsLaw, Work, count_pieces};
+use law_lesson::PayloadKind;
 use std::alloc::Global;
 use std::sync::Wait;
 use std::thread::Threads;
-use words_protocol::WordsLaw;
+use tally_sums::{Tally, Totals, report};
+use words_rest::{Deleter, PairKind};
 
 /// The report of the files: a row for each word, and the closing lines. What is kept is given up.
 fn write_report<R: Threads + Wait + Sync, F: Fn(&[u64; 16]) -> u64>(

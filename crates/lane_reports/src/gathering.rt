@@ -1,18 +1,16 @@
 //! Seat 0 takes over what the lanes have.
 ghost use Rattle.std.specs.Prelude.{◌≡◌, ◌+◌, ◌++◌, ◌≤◌, [], OnErr, OnOk, IfOk, length, vec_capacity, vec_len};
 ghost use Rattle.std.specs.List.{sum_by};
-ghost use Rattle.domain_rule.specs.Views.{IsAlone};
-ghost use Rattle.control_word.specs.Resting.{IsUnderNone};
-ghost use Rattle.lane_files.specs.Ready.{IsReady};
+ghost use Rattle.domain_audit.specs.domain_rule.Views.{IsAlone};
+ghost use Rattle.domain_audit.specs.control_word.Resting.{IsUnderNone};
+ghost use Rattle.lane_domain.specs.lane_files.Ready.{IsReady};
 ghost use Rattle.lane_reports.specs.Gathering.{EachDid, Gathers, IsBare, kept_by};
 
 use crate::done::{Done, Gathered};
-use acquire_retire::{Domain, Seat};
-use counted_handles::Strong;
-use lane_files::{Lane, Shared, Work};
-use out_of_memory::OutOfMemory;
+use domain_audit::{Domain, Seat, Strong};
+use lane_domain::{Lane, Shared, WordsLaw, Work};
 use std::alloc::Global;
-use words_protocol::WordsLaw;
+use tally_sums::OutOfMemory;
 
 /// The seats of lanes that have run leave, one after the other, and seat 0 takes over what they have. It answers the
 /// lanes' tallies, in order, and the references that they kept, one lane's after the other's.

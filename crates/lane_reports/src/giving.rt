@@ -1,15 +1,13 @@
 //! The references that are kept are given up.
 ghost use Rattle.std.specs.Prelude.{◌≡◌, ◌≤◌};
-ghost use Rattle.core_events.specs.Steps.{HasRoom};
-ghost use Rattle.control_word.specs.Resting.{IsAtRest};
-ghost use Rattle.plain_state.specs.declared.slot.SlotId.{SlotId};
-ghost use Rattle.plain_state.specs.Lists.{times};
-ghost use Rattle.lane_files.specs.Keeping.{GivesUp, slots_of};
+ghost use Rattle.domain_audit.specs.core_events.Steps.{HasRoom};
+ghost use Rattle.domain_audit.specs.control_word.Resting.{IsAtRest};
+ghost use Rattle.law_lesson.specs.plain_state.declared.slot.SlotId.{SlotId};
+ghost use Rattle.law_lesson.specs.plain_state.Lists.{times};
+ghost use Rattle.lane_domain.specs.lane_files.Keeping.{GivesUp, slots_of};
 
-use acquire_retire::{Domain, Seat};
-use control_word::drop_strong;
-use counted_handles::Strong;
-use words_protocol::WordsLaw;
+use domain_audit::{Domain, Seat, Strong, drop_strong};
+use lane_domain::WordsLaw;
 
 /// Gives up references that the seat owns. At most three steps for each.
 pub fn give_all(domain: &Domain<WordsLaw>, root: &mut Seat<WordsLaw>, kept: Vec<Strong>)

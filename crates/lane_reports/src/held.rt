@@ -1,12 +1,11 @@
 //! Of which slots some references are.
 ghost use Rattle.std.specs.Prelude.{◌≡◌, ◌==◌, true, cond, IfOk, OnOk};
-ghost use Rattle.plain_state.specs.declared.slot.SlotId.{SlotId};
+ghost use Rattle.law_lesson.specs.plain_state.declared.slot.SlotId.{SlotId};
 ghost use Rattle.lane_reports.specs.Holders.{AreSlotsOf, has};
 
-use acquire_retire::SlotId;
-use counted_handles::Strong;
-use out_of_memory::OutOfMemory;
+use domain_audit::{SlotId, Strong};
 use std::alloc::Global;
+use tally_sums::OutOfMemory;
 
 /// A mark for each slot number up to the greatest of these references': whether one of them is to that slot. A step for
 /// each reference and each number.

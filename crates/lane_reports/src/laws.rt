@@ -1,17 +1,17 @@
 //! What lanes that have run tell.
 ghost use Rattle.std.specs.Prelude.{ℕ, List};
 ghost use Rattle.std.specs.List.{flat_map};
-ghost use Rattle.acquire_retire.specs.Domains.{DomainState};
-ghost use Rattle.acquire_retire.specs.Seats.{SeatState};
-ghost use Rattle.words_law.specs.Views.{View};
-ghost use Rattle.words_protocol.specs.declared.law.WordsLaw.{WordsLaw};
-ghost use Rattle.lane_files.specs.Ready.{IsReady};
-ghost use Rattle.lane_files.specs.declared.shared.Shared.{Shared};
-ghost use Rattle.lane_files.specs.declared.lane.Lane.{Lane};
-ghost use Rattle.lane_files.specs.declared.work.Work.{Work};
-ghost use Rattle.lane_files.specs.Keeping.{slots_of};
-ghost use Rattle.lane_files.specs.Lanes.{RunsLane};
-ghost use Rattle.lane_files.specs.Work.{kept_files};
+ghost use Rattle.domain_audit.specs.acquire_retire.Domains.{DomainState};
+ghost use Rattle.domain_audit.specs.acquire_retire.Seats.{SeatState};
+ghost use Rattle.words_rest.specs.words_law.Views.{View};
+ghost use Rattle.lane_domain.specs.words_protocol.declared.law.WordsLaw.{WordsLaw};
+ghost use Rattle.lane_domain.specs.lane_files.Ready.{IsReady};
+ghost use Rattle.lane_domain.specs.lane_files.declared.shared.Shared.{Shared};
+ghost use Rattle.lane_domain.specs.lane_files.declared.lane.Lane.{Lane};
+ghost use Rattle.lane_domain.specs.lane_files.declared.work.Work.{Work};
+ghost use Rattle.lane_domain.specs.lane_files.Keeping.{slots_of};
+ghost use Rattle.lane_domain.specs.lane_files.Lanes.{RunsLane};
+ghost use Rattle.lane_domain.specs.lane_files.Work.{kept_files};
 ghost use Rattle.ticket_shares.specs.Tickets.{together};
 ghost use Rattle.lane_reports.specs.declared.done.Done.{Done};
 ghost use Rattle.lane_reports.specs.Deeds.{IsFresh, IsNew, LaneDeeds, LaneDid};

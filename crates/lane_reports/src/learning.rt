@@ -1,16 +1,13 @@
 //! What a cell holds, as a seat that is alone looks, and that the law holds of the whole state.
 ghost use Rattle.std.specs.Prelude.{◌≡◌, ◌<◌, true};
-ghost use Rattle.control_word.specs.Resting.{IsAtRest};
-ghost use Rattle.domain_rule.specs.Views.{IsAlone};
+ghost use Rattle.domain_audit.specs.control_word.Resting.{IsAtRest};
+ghost use Rattle.domain_audit.specs.domain_rule.Views.{IsAlone};
 ghost use Rattle.lane_reports.specs.Learning.{HoldsNothing, LearnsLaw};
 
-use acquire_retire::{Domain, EventPlace, Outcome, Seat};
-use directory_protocol::RecordKind;
-use law_lesson::LearnLaw;
-use plain_state::PayloadKind;
-use protocol_pairs::PairKind;
-use queue_protocol::NodeKind;
-use words_protocol::WordsLaw;
+use domain_audit::{Domain, EventPlace, Outcome, Seat};
+use lane_domain::{NodeKind, RecordKind, WordsLaw};
+use law_lesson::{LearnLaw, PayloadKind};
+use words_rest::PairKind;
 
 /// Whether a strong cell holds nothing. Each step can tell that the law holds, and this one changes nothing. One step.
 pub(crate) fn holds_nothing(domain: &Domain<WordsLaw>, root: &mut Seat<WordsLaw>, cell: u32) -> bool

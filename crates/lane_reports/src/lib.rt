@@ -31,14 +31,21 @@ mod rows;
 mod running;
 mod shutting;
 mod taking;
-#[cfg(test)]
-mod tests;
 
 pub use counted::{CountError, Counted};
+pub use domain_audit::Seat;
 pub use done::{Done, Gathered};
 pub use gathering::gather;
+pub use lane_domain::{
+    FileFault, FileText, Files, Gate, HonestFiles, HonestSink, HostFiles, HostSink, Meet, MemFiles,
+    MemSink, NodeKind, Open, RecordKind, Sink, SinkFault, WordsLaw, Work, count_pieces,
+    count_slots, is_within_limits,
+};
+pub use law_lesson::PayloadKind;
 pub use laws::{lanes_keep_files, runs_tell_deeds};
 pub use popping::take_all;
 pub use refusal::RowsError;
 pub use running::count_words;
 pub use shutting::shut_and_settle;
+pub use tally_sums::{OutOfMemory, PiecesError, Tally, pieces};
+pub use words_rest::{Deleter, Form, PairKind};

@@ -1,19 +1,16 @@
 //! The lanes that ran to their end are parted from one that was refused.
 ghost use Rattle.std.specs.Prelude.{IfErr, IfOk, Some};
 ghost use Rattle.lane_reports.specs.Parting.{AllRan, RanToEnd};
-ghost use Rattle.lane_files.specs.Makes.{cause_of};
+ghost use Rattle.lane_domain.specs.lane_files.Makes.{cause_of};
 ghost use Rattle.lane_reports.specs.Refusals.{IsAnswerFor, IsFirstRefusal, IsRefusalOf};
-ghost use Rattle.lane_files.specs.PieceMakes.{cause_in};
+ghost use Rattle.lane_domain.specs.lane_files.PieceMakes.{cause_in};
 
 use crate::counted::CountError;
 use crate::done::Done;
-use acquire_retire::Seat;
-use lane_domain::LaneEnd;
-use lane_files::{FileError, LaneError, LaneStop, PieceError};
-use out_of_memory::OutOfMemory;
-use slot_store::MakeError;
+use domain_audit::{MakeError, Seat};
+use lane_domain::{FileError, LaneEnd, LaneError, LaneStop, PieceError, WordsLaw};
 use std::alloc::Global;
-use words_protocol::WordsLaw;
+use tally_sums::OutOfMemory;
 
 /// Why a make or an add was refused, with the seat. A lane has as many makes as its tickets grant, so that it never
 /// lacks one: the arm of `MakesSpent` is there for the type.

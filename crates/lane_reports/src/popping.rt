@@ -1,16 +1,15 @@
 //! What is left of the queue is popped.
 ghost use Rattle.std.specs.Prelude.{◌≡◌, ◌^◌, ◌+◌, ◌≤◌, ◌<◌, [], IfErr, OnOk};
-ghost use Rattle.cdrc_text.specs.Tally.{total_of};
-ghost use Rattle.lane_files.specs.Passed.{Takes, UsesInterns};
-ghost use Rattle.lane_files.specs.Draining.{IsWhyNotDrained};
-ghost use Rattle.lane_files.specs.Ready.{IsReady, Owns};
+ghost use Rattle.tally_sums.specs.cdrc_text.Tally.{total_of};
+ghost use Rattle.lane_domain.specs.lane_files.Passed.{Takes, UsesInterns};
+ghost use Rattle.lane_domain.specs.lane_files.Draining.{IsWhyNotDrained};
+ghost use Rattle.lane_domain.specs.lane_files.Ready.{IsReady, Owns};
 
-use acquire_retire::{Domain, Seat};
-use cdrc_text::Tally;
 use crossbeam_utils::Backoff;
-use lane_files::{LaneError, Shared, take_one};
+use domain_audit::{Domain, Seat};
+use lane_domain::{LaneError, Shared, WordsLaw, take_one};
 use std::sync::Wait;
-use words_protocol::WordsLaw;
+use tally_sums::Tally;
 
 /// Pops so many items and counts their words. Where none is linked it tries again, so it waits for ever where fewer
 /// are left and nobody pushes.

@@ -1,12 +1,12 @@
 //! The records of the words that were counted.
 ghost use Rattle.std.specs.Prelude.{◌≡◌, ◌<◌, ◌≤◌, true, IfErr, IfOk, IfSome, IsErr, length};
 ghost use Rattle.std.specs.List.{All};
-ghost use Rattle.control_word.specs.Resting.{IsSpent};
-ghost use Rattle.directory_calls.specs.Learning.{LearnsIn};
-ghost use Rattle.directory_calls.specs.Steps.{Leaves};
-ghost use Rattle.plain_state.specs.declared.slot.SlotId.{SlotId};
-ghost use Rattle.plain_state.specs.Lists.{times};
-ghost use Rattle.lane_files.specs.Keeping.{slots_of};
+ghost use Rattle.domain_audit.specs.control_word.Resting.{IsSpent};
+ghost use Rattle.lane_domain.specs.directory_calls.Learning.{LearnsIn};
+ghost use Rattle.lane_domain.specs.directory_calls.Steps.{Leaves};
+ghost use Rattle.law_lesson.specs.plain_state.declared.slot.SlotId.{SlotId};
+ghost use Rattle.law_lesson.specs.plain_state.Lists.{times};
+ghost use Rattle.lane_domain.specs.lane_files.Keeping.{slots_of};
 ghost use Rattle.lane_reports.specs.Holders.{AreSlotsOf, IsRoot, OwnsEach, has, texts, with_texts};
 ghost use Rattle.lane_reports.specs.Kept.{lives_in};
 ghost use Rattle.lane_reports.specs.Rows.{AreWords, IsRecordOf, IsWhyNoRows, sums_in};
@@ -15,22 +15,14 @@ ghost use Rattle.words_rest.specs.Kept.{TellsWord};
 
 use crate::held::{is_held, mark_slots};
 use crate::refusal::RowsError;
-use acquire_retire::{Domain, Seat, SlotId};
-use cdrc_text::Tally;
-use control_word::drop_strong;
-use counted_handles::{Spent, Strong};
 use crossbeam_utils::Backoff;
-use lane_files::Shared;
-use out_of_memory::OutOfMemory;
-use protocol_pairs::Right;
-use queue_protocol::NodeKind;
+use domain_audit::{Domain, Seat, SlotId, Spent, Strong, drop_strong};
+use lane_domain::{NodeKind, Shared, WordsLaw, find, pairs_have_pieces};
 use std::alloc::Global;
 use std::sync::Wait;
 use std::thread::Threads;
-use tally_sums::counted_words;
-use text_reading::pairs_have_pieces;
-use weak_intern::find;
-use words_protocol::WordsLaw;
+use tally_sums::{OutOfMemory, Tally, counted_words};
+use words_rest::Right;
 
 /// A word, how often it was counted, and the slot of its record.
 #[derive(Drop)]

@@ -2,9 +2,9 @@
 ghost use Rattle.std.specs.Prelude.{◌≡◌};
 ghost use Rattle.lane_reports.specs.declared.refusal.RowsError.TheVariants as refused;
 
-use counted_handles::Spent;
-use out_of_memory::OutOfMemory;
+use domain_audit::Spent;
 use std::alloc::AllocError;
+use tally_sums::OutOfMemory;
 
 /// Why there are no rows.
 #[derive(Clone, Copy, PartialEq, Eq, Debug, Drop)]

@@ -1,26 +1,20 @@
 //! The row of each word.
 ghost use Rattle.std.specs.Prelude.{◌≡◌, ◌<◌, IfOk, Some};
 ghost use Rattle.std.specs.List.{All};
-ghost use Rattle.directory_calls.specs.Steps.{Leaves};
-ghost use Rattle.plain_state.specs.Lists.{times};
-ghost use Rattle.plain_state.specs.State.{Plain};
-ghost use Rattle.domain_rule.specs.Views.{own_of};
+ghost use Rattle.lane_domain.specs.directory_calls.Steps.{Leaves};
+ghost use Rattle.law_lesson.specs.plain_state.Lists.{times};
+ghost use Rattle.law_lesson.specs.plain_state.State.{Plain};
+ghost use Rattle.domain_audit.specs.domain_rule.Views.{own_of};
 ghost use Rattle.lane_reports.specs.Holders.{IsCount, IsRoot};
 ghost use Rattle.lane_reports.specs.Rows.{AreRowsOf, IsOwnedBy, IsRowOf};
 
 use crate::records::WordRecord;
-use acquire_retire::{Domain, Seat, SlotId};
-use cdrc_text::Row;
-use control_word::strong_count;
-use directory_protocol::RecordKind;
-use lane_files::Shared;
-use law_lesson::LearnLaw;
-use out_of_memory::OutOfMemory;
-use plain_state::PayloadKind;
-use protocol_pairs::PairKind;
-use queue_protocol::NodeKind;
+use domain_audit::{Domain, Seat, SlotId, strong_count};
+use lane_domain::{NodeKind, RecordKind, Shared, WordsLaw};
+use law_lesson::{LearnLaw, PayloadKind};
 use std::alloc::Global;
-use words_protocol::WordsLaw;
+use tally_sums::{OutOfMemory, Row};
+use words_rest::PairKind;
 
 /// A row for each record: how often its word was counted, how many references it has, and the word. The seat is
 /// alone and owns a reference to each. One step for each record. `OutOfMemory` comes of an allocation failure.

@@ -1,11 +1,11 @@
 //! How the words of some files are counted.
 ghost use Rattle.std.specs.Prelude.{◌≡◌, ◌≤◌, IfErr, IfOk};
-ghost use Rattle.plain_state.specs.Limits.{most_slots};
-ghost use Rattle.cdrc_text.specs.Text.{IsReport};
-ghost use Rattle.deleter.specs.Weighing.{Weighs};
-ghost use Rattle.lane_files.specs.Ready.{IsReady};
-ghost use Rattle.lane_files.specs.Lanes.{HasGrants};
-ghost use Rattle.lane_files.specs.Work.{IsWork};
+ghost use Rattle.law_lesson.specs.plain_state.Limits.{most_slots};
+ghost use Rattle.tally_sums.specs.cdrc_text.Text.{IsReport};
+ghost use Rattle.words_rest.specs.deleter.Weighing.{Weighs};
+ghost use Rattle.lane_domain.specs.lane_files.Ready.{IsReady};
+ghost use Rattle.lane_domain.specs.lane_files.Lanes.{HasGrants};
+ghost use Rattle.lane_domain.specs.lane_files.Work.{IsWork};
 ghost use Rattle.lane_domain.specs.Opened.{HasOnlyLaid, IsDomainFor, fresh_lanes};
 ghost use Rattle.lane_domain.specs.Sizes.{IsWithinLimits, most_lanes, texts_in};
 ghost use Rattle.lane_reports.specs.Counting.{CountsAll};
@@ -16,18 +16,14 @@ use crate::counted::{CountError, Counted};
 use crate::finishing::finish;
 use crate::parting::part_lanes;
 use crate::refusal::RowsError;
-use deleter::Deleter;
-use directory_protocol::RecordKind;
-use lane_domain::{OpenLanesError, Opened, open_lanes, run_lanes};
-use lane_files::Work;
-use lane_gate::Gate;
-use plain_state::PayloadKind;
-use protocol_pairs::PairKind;
-use queue_law::Form;
-use queue_protocol::NodeKind;
+use lane_domain::{
+    Gate, NodeKind, OpenLanesError, Opened, RecordKind, Work, open_lanes, run_lanes,
+};
+use law_lesson::PayloadKind;
 use std::alloc::Global;
 use std::sync::Wait;
 use std::thread::Threads;
+use words_rest::{Deleter, Form, PairKind};
 
 /// Opens the domain.
 fn open(

@@ -1,22 +1,16 @@
 //! The queue is shut, and what ended is destroyed.
 ghost use Rattle.std.specs.Prelude.{◌≡◌};
-ghost use Rattle.core_events.specs.Steps.{HasRoom};
-ghost use Rattle.control_word.specs.Resting.{IsAtRest, IsUnderNone};
-ghost use Rattle.deleter.specs.Weighing.{Weighs};
-ghost use Rattle.domain_rule.specs.Views.{IsAlone};
-ghost use Rattle.lane_files.specs.Ready.{IsReady};
+ghost use Rattle.domain_audit.specs.core_events.Steps.{HasRoom};
+ghost use Rattle.domain_audit.specs.control_word.Resting.{IsAtRest, IsUnderNone};
+ghost use Rattle.words_rest.specs.deleter.Weighing.{Weighs};
+ghost use Rattle.domain_audit.specs.domain_rule.Views.{IsAlone};
+ghost use Rattle.lane_domain.specs.lane_files.Ready.{IsReady};
 ghost use Rattle.lane_reports.specs.Shutting.{ShutsAndSettles};
 
-use acquire_retire::{Domain, Seat};
-use deleter::Deleter;
-use directory_protocol::RecordKind;
-use hand_queues::HandQueue;
-use lane_files::Shared;
-use plain_state::PayloadKind;
-use protocol_pairs::{Left, PairKind};
-use queue_protocol::NodeKind;
-use slot_store::settle;
-use words_protocol::WordsLaw;
+use domain_audit::{Domain, Seat, settle};
+use lane_domain::{HandQueue, NodeKind, RecordKind, Shared, WordsLaw};
+use law_lesson::PayloadKind;
+use words_rest::{Deleter, Left, PairKind};
 
 /// Shuts the queue, once every other seat has left, and then destroys all that may be destroyed: nothing stays retired
 /// and nothing dying. What the seat owns stays. Its steps are those of the queue's `shut` and of `settle`. No make.

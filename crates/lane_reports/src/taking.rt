@@ -1,23 +1,20 @@
 //! What no lane popped is popped by seat 0.
 ghost use Rattle.std.specs.Prelude.{◌≡◌, ◌≤◌, ◌∷◌, ◌^◌, IfErr, IfOk};
 ghost use Rattle.std.specs.List.{sum_by};
-ghost use Rattle.cdrc_text.specs.Tally.{total_of};
-ghost use Rattle.lane_files.specs.Ready.{IsReady, Owns};
+ghost use Rattle.tally_sums.specs.cdrc_text.Tally.{total_of};
+ghost use Rattle.lane_domain.specs.lane_files.Ready.{IsReady, Owns};
 ghost use Rattle.lane_domain.specs.Sizes.{IsWithinLimits};
-ghost use Rattle.lane_files.specs.Work.{IsWork};
+ghost use Rattle.lane_domain.specs.lane_files.Work.{IsWork};
 ghost use Rattle.lane_reports.specs.Rows.{IsWhyNoRows};
 ghost use Rattle.lane_reports.specs.Taking.{CountsRest, TakesRest};
 
 use crate::popping::take_all;
 use crate::refusal::RowsError;
-use acquire_retire::{Domain, Seat};
-use cdrc_text::Tally;
-use lane_domain::count_pieces;
-use lane_files::{LaneError, Shared, Work};
-use out_of_memory::OutOfMemory;
+use domain_audit::{Domain, Seat};
+use lane_domain::{LaneError, Shared, WordsLaw, Work, count_pieces};
 use std::alloc::Global;
 use std::sync::Wait;
-use words_protocol::WordsLaw;
+use tally_sums::{OutOfMemory, Tally};
 
 /// How many pieces the tallies counted together, as long as that is below 2^64: never more than they counted.
 fn all_counted(tallies: &[Tally]) -> u64

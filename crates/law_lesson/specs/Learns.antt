@@ -1,7 +1,7 @@
 -- A calm step keeps the law, and whoever makes it may be told that it held before.
 use Rattle.std.proofs.Common.{◌≡◌, List, refl, sym, subst}
 use Rattle.std.proofs.lemmas.List.{set-get_or}
-use Rattle.plain_state.specs.State.{Plain}
+use Rattle.plain_protocol.specs.plain_state.State.{Plain}
 use Rattle.plain_protocol.specs.Acts.{IsCalm}
 use Rattle.plain_protocol.specs.Laws.{KeptByCalm, Keeps}
 use Rattle.law_lesson.specs.Lessons.{HoldsOf}

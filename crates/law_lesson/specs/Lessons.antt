@@ -1,6 +1,6 @@
 -- What a seat learns of its protocol's law.
 use Rattle.std.specs.Prelude.{◌≡◌, ℕ, ◌<◌, List, length, slice_index_or}
-use Rattle.plain_state.specs.State.{Plain}
+use Rattle.plain_protocol.specs.plain_state.State.{Plain}
 use Rattle.plain_protocol.specs.Laws.{Meets}
 
 -- the law holds of the state and of the views of all seats, and seat n has this view

@@ -12,7 +12,6 @@
 #![tactic(auto)]
 
 mod deed;
-#[cfg(test)]
-mod tests;
 
 pub use deed::LearnLaw;
+pub use plain_protocol::{Heap, PayloadKind};

@@ -16,9 +16,8 @@
 mod laws;
 mod machine;
 mod run;
-#[cfg(test)]
-mod tests;
 
 pub use laws::runs_are_one;
+pub use line_words::{Lines, OutOfMemory, Reason, push_number, push_refused, words};
 pub use machine::LineMachine;
 pub use run::{Written, run_lines};

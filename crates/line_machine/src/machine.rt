@@ -3,8 +3,7 @@ ghost use Rattle.std.specs.Prelude.{◌≡◌, ◌++◌, ℕ, Bool, List, Ok, No
 ghost use Rattle.line_words.specs.declared.reason.Reason.{Reason};
 ghost use Rattle.line_words.specs.Words.{texts_of};
 
-use line_words::Reason;
-use out_of_memory::OutOfMemory;
+use line_words::{OutOfMemory, Reason};
 use std::alloc::Global;
 
 /// What takes the lines of a text one by one, with an aid that is one for all of them. Its ghost members say what a

@@ -3,8 +3,7 @@ ghost use Rattle.std.specs.Prelude.{◌≡◌, IfOk};
 ghost use Rattle.line_machine.specs.Runs.{IsRun};
 
 use crate::machine::LineMachine;
-use line_words::{Lines, is_blank, push_refused, words};
-use out_of_memory::OutOfMemory;
+use line_words::{Lines, OutOfMemory, is_blank, push_refused, words};
 use std::alloc::Global;
 
 /// What a run wrote, and whether a line was refused, which its last line tells.

@@ -1,3 +1,6 @@
+-- What callers cite of the crates below.
+pub use Rattle.cdrc_text.specs as cdrc_text
+-- Its own.
 pub mod Lines
 pub mod Number
 pub mod Refused

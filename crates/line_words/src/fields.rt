@@ -4,7 +4,7 @@ ghost use Rattle.std.specs.Prelude.{◌≡◌, IfOk};
 ghost use Rattle.line_words.specs.Words.{is_blank as is_blank_line, texts_of, words_of};
 
 use bstr::ByteSlice;
-use out_of_memory::OutOfMemory;
+use cdrc_text::OutOfMemory;
 use std::alloc::Global;
 
 /// The words of a line, in order. Linear in the bytes.

@@ -23,11 +23,10 @@ mod lines;
 mod numbers;
 mod reason;
 mod refusal;
-#[cfg(test)]
-mod tests;
 
 pub use crate::fields::{is_blank, words};
 pub use crate::lines::{Line, Lines};
 pub use crate::numbers::number;
 pub use crate::reason::Reason;
 pub use crate::refusal::push_refused;
+pub use cdrc_text::{Back, OutOfMemory, Tally, generate, push_number};

@@ -4,8 +4,7 @@ ghost use Rattle.std.specs.Prelude.{◌≡◌, ◌++◌, OnOk, OnErr};
 ghost use Rattle.line_words.specs.Refused.{reason_text, refused_line};
 
 use crate::reason::Reason;
-use cdrc_text::push_number;
-use out_of_memory::OutOfMemory;
+use cdrc_text::{OutOfMemory, push_number};
 
 /// Puts `line N refused: REASON` and a line feed at the end. A refusal, for an allocation failure, leaves the text as
 /// it was.

@@ -1,18 +1,18 @@
 -- The rest of a protocol accepts what the queue's deeds make of a view, and an item that may be pushed still may be.
 use Rattle.std.proofs.Common.{◌≡◌, ℕ, suc, zero, Bool, true, false, refl, ap, sym, ◌∙◌, subst}
 use Rattle.std.specs.Prelude.{cond, ◌==◌}
-use Rattle.plain_state.specs.declared.act.PlainAct.{PlainAct}
-use Rattle.plain_protocol.specs.Owns.{OwnPart}
-use Rattle.acquire_retire.specs.Seats.{SeatState}
-use Rattle.protocol_pairs.specs.Parts.{PutsBack, PutsOver}
+use Rattle.queue_protocol.specs.plain_state.declared.act.PlainAct.{PlainAct}
+use Rattle.queue_protocol.specs.plain_protocol.Owns.{OwnPart}
+use Rattle.slot_store.specs.acquire_retire.Seats.{SeatState}
+use Rattle.queue_protocol.specs.protocol_pairs.Parts.{PutsBack, PutsOver}
 use Rattle.part_calls.specs.Parts.{AcceptsAll, HasBeside, StaysBeside}
 use Rattle.part_calls.proofs.Beside.{stays_beside}
-use Rattle.queue_law.specs.declared.view.Item.{Item}
-use Rattle.queue_law.specs.declared.view.View.{View}
-use Rattle.queue_law.specs.Lessons.{attach_next, learn_next}
-use Rattle.queue_law.specs.Pops.{popped_view, take_next}
-use Rattle.queue_law.specs.Pushes.{carried_item, link_next, linked_view}
-use Rattle.queue_law.specs.Views.{first_view}
+use Rattle.queue_protocol.specs.queue_law.declared.view.Item.{Item}
+use Rattle.queue_protocol.specs.queue_law.declared.view.View.{View}
+use Rattle.queue_protocol.specs.queue_law.Lessons.{attach_next, learn_next}
+use Rattle.queue_protocol.specs.queue_law.Pops.{popped_view, take_next}
+use Rattle.queue_protocol.specs.queue_law.Pushes.{carried_item, link_next, linked_view}
+use Rattle.queue_protocol.specs.queue_law.Views.{first_view}
 use Rattle.queue_protocol.specs.Pushable.{AcceptsKept, AcceptsPush, StaysPushable}
 use Rattle.linked_queue.specs.UnlessRipe.{is_clear, next_unless}
 use Rattle.linked_queue.proofs.CellLoads.{learn_notes}

@@ -1,12 +1,12 @@
 -- A seat that pushes or pops stays attached, and owns what it popped.
 use Rattle.std.proofs.Common.{◌≡◌, ◌<◌, [], ◌∷◌, ◌++◌, List, ap, ◌∙◌, arith}
 use Rattle.std.specs.Prelude.{Err, IfOk, IfSome, Ok, OnErr, Option, Result, Some, None}
-use Rattle.plain_state.specs.declared.slot.SlotId.{SlotId}
-use Rattle.plain_state.specs.Lists.{times}
-use Rattle.counted_handles.specs.Handles.{Handle}
-use Rattle.acquire_retire.specs.Seats.{SeatState}
-use Rattle.queue_law.specs.declared.view.View.{View}
-use Rattle.atomic_shared.specs.Places.{named}
+use Rattle.queue_protocol.specs.plain_state.declared.slot.SlotId.{SlotId}
+use Rattle.queue_protocol.specs.plain_state.Lists.{times}
+use Rattle.slot_store.specs.counted_handles.Handles.{Handle}
+use Rattle.slot_store.specs.acquire_retire.Seats.{SeatState}
+use Rattle.queue_protocol.specs.queue_law.declared.view.View.{View}
+use Rattle.part_calls.specs.atomic_shared.Places.{named}
 use Rattle.linked_queue.specs.Leaving.{found_by, with_found}
 use Rattle.linked_queue.specs.Pops.{OwnsBoth, Pops, PopsWith, both_by}
 use Rattle.linked_queue.specs.Pushes.{Pushes, PushesNothing}

@@ -1,11 +1,11 @@
 -- What a seat owns that may have gained a reference to an item and one to its content.
 use Rattle.std.proofs.Common.{◌≡◌, ℕ, ◌+◌, ◌<◌, List, [], ◌∷◌, ◌++◌, refl, sym, ◌∙◌, arith}
 use Rattle.std.specs.Prelude.{Option, Some, None}
-use Rattle.plain_state.specs.declared.slot.SlotId.{SlotId}
-use Rattle.plain_state.specs.Lists.{times}
-use Rattle.core_events.specs.Views.{Holds, without}
-use Rattle.core_law.proofs.Kit.{one_same, times_none, times_push, times_without}
-use Rattle.acquire_retire.specs.Seats.{SeatState}
+use Rattle.queue_protocol.specs.plain_state.declared.slot.SlotId.{SlotId}
+use Rattle.queue_protocol.specs.plain_state.Lists.{times}
+use Rattle.slot_store.specs.core_events.Views.{Holds, without}
+use Rattle.slot_store.proofs.Below.core_law.Kit.{one_same, times_none, times_push, times_without}
+use Rattle.slot_store.specs.acquire_retire.Seats.{SeatState}
 use Rattle.linked_queue.specs.Leaving.{Leaves, with_found}
 use Rattle.linked_queue.specs.Pops.{with_both}
 use Rattle.linked_queue.proofs.Owning.{found_more, holds_more}

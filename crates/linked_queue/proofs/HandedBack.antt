@@ -1,11 +1,11 @@
 -- The item of a push that pushed nothing is the seat's as before.
 use Rattle.std.proofs.Common.{◌≡◌, ◌<◌, ap, sym, subst}
 use Rattle.std.specs.Prelude.{Err, IfErr, Ok, OnErr, Result}
-use Rattle.plain_state.specs.declared.slot.SlotId.{SlotId}
-use Rattle.plain_state.specs.Lists.{times}
-use Rattle.acquire_retire.specs.Seats.{SeatState}
-use Rattle.counted_handles.specs.Handles.{Handle}
-use Rattle.queue_law.specs.declared.view.View.{View}
+use Rattle.queue_protocol.specs.plain_state.declared.slot.SlotId.{SlotId}
+use Rattle.queue_protocol.specs.plain_state.Lists.{times}
+use Rattle.slot_store.specs.acquire_retire.Seats.{SeatState}
+use Rattle.slot_store.specs.counted_handles.Handles.{Handle}
+use Rattle.queue_protocol.specs.queue_law.declared.view.View.{View}
 use Rattle.linked_queue.specs.declared.queue.PushError.{PushError}
 use Rattle.linked_queue.specs.Pushes.{PushesNothing, back_of}
 

@@ -1,22 +1,22 @@
 -- How a queue is laid, step by step.
 use Rattle.std.proofs.Common.{◌≡◌, ◌<◌, [], ◌∷◌, ◌++◌, refl, ap, sym, ◌∙◌, arith, ℕ, List}
 use Rattle.std.specs.Prelude.{None}
-use Rattle.plain_state.specs.declared.slot.SlotId.{SlotId}
-use Rattle.plain_state.specs.Lists.{times}
-use Rattle.plain_state.specs.State.{no_payload}
-use Rattle.plain_protocol.specs.Owns.{Object}
-use Rattle.core_events.specs.declared.view.CoreView.{CoreView}
-use Rattle.core_events.specs.Views.{without}
-use Rattle.acquire_retire.specs.Calls.{IsSameView, same_view}
-use Rattle.acquire_retire.specs.Domains.{DomainState}
-use Rattle.acquire_retire.specs.Seats.{SeatState}
-use Rattle.control_word.specs.Calls.{GainsStrong}
-use Rattle.control_word.specs.Moves.{KnowsStill}
-use Rattle.control_word.specs.Resting.{IsSpent}
+use Rattle.queue_protocol.specs.plain_state.declared.slot.SlotId.{SlotId}
+use Rattle.queue_protocol.specs.plain_state.Lists.{times}
+use Rattle.queue_protocol.specs.plain_state.State.{no_payload}
+use Rattle.queue_protocol.specs.plain_protocol.Owns.{Object}
+use Rattle.slot_store.specs.core_events.declared.view.CoreView.{CoreView}
+use Rattle.slot_store.specs.core_events.Views.{without}
+use Rattle.slot_store.specs.acquire_retire.Calls.{IsSameView, same_view}
+use Rattle.slot_store.specs.acquire_retire.Domains.{DomainState}
+use Rattle.slot_store.specs.acquire_retire.Seats.{SeatState}
+use Rattle.slot_store.specs.control_word.Calls.{GainsStrong}
+use Rattle.slot_store.specs.control_word.Moves.{KnowsStill}
+use Rattle.slot_store.specs.control_word.Resting.{IsSpent}
 use Rattle.slot_store.specs.Calls.{Makes}
-use Rattle.queue_law.specs.declared.view.View.{View}
-use Rattle.queue_law.specs.Lessons.{TellsNothing}
-use Rattle.queue_law.specs.Nodes.{make_next}
+use Rattle.queue_protocol.specs.queue_law.declared.view.View.{View}
+use Rattle.queue_protocol.specs.queue_law.Lessons.{TellsNothing}
+use Rattle.queue_protocol.specs.queue_law.Nodes.{make_next}
 use Rattle.queue_protocol.specs.declared.law.QueueLaw.{QueueLaw}
 use Rattle.linked_queue.specs.Leaving.{Leaves}
 use Rattle.linked_queue.specs.Nodes.{HasFewAdds, HasNode, IsHalfLaid, half_laid_in}

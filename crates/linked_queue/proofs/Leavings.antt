@@ -1,26 +1,26 @@
 -- What single calls leave of a seat: those that gain, give up or keep a strong reference.
 use Rattle.std.proofs.Common.{◌≡◌, ◌≤◌, ℕ, Bool, true, false, List, [], ◌∷◌, ◌++◌, refl, ap, sym, ◌∙◌, subst, arith}
 use Rattle.std.specs.Prelude.{Err, IfErr, IfOk, Ok, Option, Result, Some, None}
-use Rattle.plain_state.specs.declared.act.EventPlace.{EventPlace}
-use Rattle.plain_state.specs.declared.act.PlainAct.{PlainAct}
-use Rattle.plain_state.specs.declared.slot.Kind.TheVariants.{Strong}
-use Rattle.plain_state.specs.declared.slot.SlotId.{SlotId}
-use Rattle.plain_state.specs.Lists.{times}
-use Rattle.plain_state.specs.Places.{place_kind}
-use Rattle.plain_state.specs.State.{Plain}
-use Rattle.plain_protocol.specs.Owns.{OwnPart}
-use Rattle.core_events.specs.declared.view.CoreView.{CoreView}
-use Rattle.core_events.specs.declared.view.Move.{Move}
-use Rattle.core_events.specs.Steps.{without_given}
-use Rattle.core_events.specs.Views.{Holds, without}
-use Rattle.acquire_retire.specs.Collecting.{ends, rest_of}
-use Rattle.acquire_retire.specs.Domains.{DomainState}
-use Rattle.acquire_retire.specs.Seats.{SeatState}
-use Rattle.control_word.specs.Calls.{DropsStrong, GainsStrong, with_ended, with_strong, without_strong}
-use Rattle.control_word.specs.Moves.{KnowsStill}
-use Rattle.control_word.specs.Resting.{IsSpent}
-use Rattle.protected_loads.proofs.Telling.{holds_has}
-use Rattle.retiring_stores.specs.Exchanging.{Exchanges}
+use Rattle.queue_protocol.specs.plain_state.declared.act.EventPlace.{EventPlace}
+use Rattle.queue_protocol.specs.plain_state.declared.act.PlainAct.{PlainAct}
+use Rattle.queue_protocol.specs.plain_state.declared.slot.Kind.TheVariants.{Strong}
+use Rattle.queue_protocol.specs.plain_state.declared.slot.SlotId.{SlotId}
+use Rattle.queue_protocol.specs.plain_state.Lists.{times}
+use Rattle.queue_protocol.specs.plain_state.Places.{place_kind}
+use Rattle.queue_protocol.specs.plain_state.State.{Plain}
+use Rattle.queue_protocol.specs.plain_protocol.Owns.{OwnPart}
+use Rattle.slot_store.specs.core_events.declared.view.CoreView.{CoreView}
+use Rattle.slot_store.specs.core_events.declared.view.Move.{Move}
+use Rattle.slot_store.specs.core_events.Steps.{without_given}
+use Rattle.slot_store.specs.core_events.Views.{Holds, without}
+use Rattle.slot_store.specs.acquire_retire.Collecting.{ends, rest_of}
+use Rattle.slot_store.specs.acquire_retire.Domains.{DomainState}
+use Rattle.slot_store.specs.acquire_retire.Seats.{SeatState}
+use Rattle.slot_store.specs.control_word.Calls.{DropsStrong, GainsStrong, with_ended, with_strong, without_strong}
+use Rattle.slot_store.specs.control_word.Moves.{KnowsStill}
+use Rattle.slot_store.specs.control_word.Resting.{IsSpent}
+use Rattle.part_calls.proofs.Below.protected_loads.Telling.{holds_has}
+use Rattle.slot_store.specs.retiring_stores.Exchanging.{Exchanges}
 use Rattle.linked_queue.specs.Leaving.{Leaves, aside}
 use Rattle.linked_queue.proofs.Owning.{holds_more}
 use Rattle.linked_queue.proofs.Trails.{exchange_trail, trail_same}

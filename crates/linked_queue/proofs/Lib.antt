@@ -1,3 +1,4 @@
+pub mod Below
 pub mod Trails
 pub mod Owning
 pub mod Leavings

@@ -1,34 +1,34 @@
 -- The exchanges at the end of a queue: what their deeds ask, and what they leave.
 use Rattle.std.proofs.Common.{◌≡◌, ℕ, ◌-◌, ◌<◌, Bool, true, [], ◌∷◌, ◌++◌, refl, ap, sym, ◌∙◌, subst, arith, ◌+◌, ◌≤◌, List}
 use Rattle.std.specs.Prelude.{◌==◌, Option, Some, None, cond}
-use Rattle.plain_state.specs.declared.act.EventPlace.{EventPlace}
-use Rattle.plain_state.specs.declared.act.EventPlace.TheVariants.{Field}
-use Rattle.plain_state.specs.declared.act.PlainAct.TheVariants as plain
-use Rattle.plain_state.specs.declared.slot.SlotId.{SlotId}
-use Rattle.plain_state.specs.Lists.{times}
-use Rattle.plain_protocol.specs.Owns.{Object, OwnPart}
-use Rattle.plain_state.specs.declared.act.PlainAct.{PlainAct}
-use Rattle.core_events.specs.declared.act.Act.TheVariants as act
-use Rattle.core_events.specs.declared.outcome.Outcome.TheVariants as outcome
-use Rattle.core_events.specs.declared.shape.Shape.{Shape}
-use Rattle.core_events.specs.declared.view.CoreView.{CoreView}
-use Rattle.core_events.specs.Views.{without}
-use Rattle.core_law.proofs.Kit.{times_without}
-use Rattle.counted_handles.specs.declared.refusal.LoadError.{LoadError}
-use Rattle.counted_handles.specs.declared.refusal.LoadError.TheVariants as unloaded
-use Rattle.domain_rule.specs.Views.{object_in, own_of}
-use Rattle.acquire_retire.specs.Calls.{IsReady, IsSameView, same_view}
-use Rattle.acquire_retire.specs.Domains.{DomainState}
-use Rattle.acquire_retire.specs.Seats.{SeatState}
-use Rattle.control_word.specs.Calls.{DropsStrong, GainsStrong, without_strong}
-use Rattle.control_word.specs.Moves.{KnowsStill}
-use Rattle.retiring_stores.specs.Exchanging.{LosesTo, Replaces}
-use Rattle.queue_law.specs.declared.view.Form.TheVariants.{Linked}
-use Rattle.queue_law.specs.declared.view.View.{View}
-use Rattle.queue_law.specs.Lessons.{TellsNothing}
-use Rattle.queue_law.specs.Pushes.{LinkReady, link_next, linked_view}
-use Rattle.queue_law.specs.Views.{sees_node}
-use Rattle.queue_law.specs.Words.{life_in}
+use Rattle.queue_protocol.specs.plain_state.declared.act.EventPlace.{EventPlace}
+use Rattle.queue_protocol.specs.plain_state.declared.act.EventPlace.TheVariants.{Field}
+use Rattle.queue_protocol.specs.plain_state.declared.act.PlainAct.TheVariants as plain
+use Rattle.queue_protocol.specs.plain_state.declared.slot.SlotId.{SlotId}
+use Rattle.queue_protocol.specs.plain_state.Lists.{times}
+use Rattle.queue_protocol.specs.plain_protocol.Owns.{Object, OwnPart}
+use Rattle.queue_protocol.specs.plain_state.declared.act.PlainAct.{PlainAct}
+use Rattle.slot_store.specs.core_events.declared.act.Act.TheVariants as act
+use Rattle.slot_store.specs.core_events.declared.outcome.Outcome.TheVariants as outcome
+use Rattle.slot_store.specs.core_events.declared.shape.Shape.{Shape}
+use Rattle.slot_store.specs.core_events.declared.view.CoreView.{CoreView}
+use Rattle.slot_store.specs.core_events.Views.{without}
+use Rattle.slot_store.proofs.Below.core_law.Kit.{times_without}
+use Rattle.slot_store.specs.counted_handles.declared.refusal.LoadError.{LoadError}
+use Rattle.slot_store.specs.counted_handles.declared.refusal.LoadError.TheVariants as unloaded
+use Rattle.slot_store.specs.domain_rule.Views.{object_in, own_of}
+use Rattle.slot_store.specs.acquire_retire.Calls.{IsReady, IsSameView, same_view}
+use Rattle.slot_store.specs.acquire_retire.Domains.{DomainState}
+use Rattle.slot_store.specs.acquire_retire.Seats.{SeatState}
+use Rattle.slot_store.specs.control_word.Calls.{DropsStrong, GainsStrong, without_strong}
+use Rattle.slot_store.specs.control_word.Moves.{KnowsStill}
+use Rattle.slot_store.specs.retiring_stores.Exchanging.{LosesTo, Replaces}
+use Rattle.queue_protocol.specs.queue_law.declared.view.Form.TheVariants.{Linked}
+use Rattle.queue_protocol.specs.queue_law.declared.view.View.{View}
+use Rattle.queue_protocol.specs.queue_law.Lessons.{TellsNothing}
+use Rattle.queue_protocol.specs.queue_law.Pushes.{LinkReady, link_next, linked_view}
+use Rattle.queue_protocol.specs.queue_law.Views.{sees_node}
+use Rattle.queue_protocol.specs.queue_law.Words.{life_in}
 use Rattle.queue_protocol.specs.declared.law.QueueLaw.{QueueLaw}
 use Rattle.linked_queue.specs.Leaving.{Leaves}
 use Rattle.linked_queue.specs.Pushes.{HasLoad, IsWhyUnlinked, SeesBehind, SeesTail, advanced_in}

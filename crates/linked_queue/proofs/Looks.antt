@@ -1,27 +1,27 @@
 -- What a look at a place leaves, and what it tells.
 use Rattle.std.proofs.Common.{◌≡◌, ℕ, List, [], ◌∷◌, refl, ap, sym, ◌∙◌, subst}
 use Rattle.std.specs.Prelude.{Option}
-use Rattle.plain_state.specs.declared.act.EventPlace.{EventPlace}
-use Rattle.plain_state.specs.declared.act.PlainAct.{PlainAct}
-use Rattle.plain_state.specs.declared.slot.SlotId.{SlotId}
-use Rattle.plain_state.specs.Places.{content}
-use Rattle.plain_state.specs.State.{Plain}
-use Rattle.plain_state.specs.Steps.{word_of}
-use Rattle.plain_protocol.specs.Owns.{OwnPart}
-use Rattle.core_events.specs.declared.act.Act.TheVariants as act
-use Rattle.core_events.specs.declared.outcome.Outcome.{Outcome}
-use Rattle.core_events.specs.declared.outcome.Outcome.TheVariants as outcome
-use Rattle.core_events.specs.Shows.{shows}
-use Rattle.core_events.specs.Words.{slot_in}
-use Rattle.core_law.proofs.ShownPlaces.{slot_word}
-use Rattle.acquire_retire.specs.Calls.{Steps}
-use Rattle.acquire_retire.specs.Collecting.{move}
-use Rattle.acquire_retire.specs.Domains.{DomainState}
-use Rattle.acquire_retire.specs.Seats.{SeatState}
-use Rattle.acquire_retire.proofs.Contents.{look_on}
-use Rattle.control_word.specs.Moves.{Becomes, last_core}
-use Rattle.control_word.proofs.Becoming.{one_step}
-use Rattle.protected_loads.proofs.Telling.{content_found}
+use Rattle.queue_protocol.specs.plain_state.declared.act.EventPlace.{EventPlace}
+use Rattle.queue_protocol.specs.plain_state.declared.act.PlainAct.{PlainAct}
+use Rattle.queue_protocol.specs.plain_state.declared.slot.SlotId.{SlotId}
+use Rattle.queue_protocol.specs.plain_state.Places.{content}
+use Rattle.queue_protocol.specs.plain_state.State.{Plain}
+use Rattle.queue_protocol.specs.plain_state.Steps.{word_of}
+use Rattle.queue_protocol.specs.plain_protocol.Owns.{OwnPart}
+use Rattle.slot_store.specs.core_events.declared.act.Act.TheVariants as act
+use Rattle.slot_store.specs.core_events.declared.outcome.Outcome.{Outcome}
+use Rattle.slot_store.specs.core_events.declared.outcome.Outcome.TheVariants as outcome
+use Rattle.slot_store.specs.core_events.Shows.{shows}
+use Rattle.slot_store.specs.core_events.Words.{slot_in}
+use Rattle.slot_store.proofs.Below.core_law.ShownPlaces.{slot_word}
+use Rattle.slot_store.specs.acquire_retire.Calls.{Steps}
+use Rattle.slot_store.specs.acquire_retire.Collecting.{move}
+use Rattle.slot_store.specs.acquire_retire.Domains.{DomainState}
+use Rattle.slot_store.specs.acquire_retire.Seats.{SeatState}
+use Rattle.slot_store.proofs.Below.acquire_retire.Contents.{look_on}
+use Rattle.slot_store.specs.control_word.Moves.{Becomes, last_core}
+use Rattle.slot_store.proofs.Below.control_word.Becoming.{one_step}
+use Rattle.part_calls.proofs.Below.protected_loads.Telling.{content_found}
 
 module _ {P V : Type 0} {fits : List ℕ → Type 0} (d : DomainState P)
     {next : OwnPart → OwnPart → V → PlainAct → ℕ → V}

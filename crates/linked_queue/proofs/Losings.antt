@@ -1,10 +1,10 @@
 -- Why a pop answers nothing, level by level.
 use Rattle.std.proofs.Common.{◌≡◌, ℕ, ◌+◌, ◌≤◌, refl, ap, arith}
-use Rattle.core_events.specs.declared.view.CoreView.{CoreView}
-use Rattle.counted_handles.specs.declared.refusal.LoadError.{LoadError}
-use Rattle.counted_handles.specs.declared.refusal.LoadError.TheVariants as unloaded
-use Rattle.acquire_retire.specs.Seats.{SeatState}
-use Rattle.queue_law.specs.declared.view.View.{View}
+use Rattle.slot_store.specs.core_events.declared.view.CoreView.{CoreView}
+use Rattle.slot_store.specs.counted_handles.declared.refusal.LoadError.{LoadError}
+use Rattle.slot_store.specs.counted_handles.declared.refusal.LoadError.TheVariants as unloaded
+use Rattle.slot_store.specs.acquire_retire.Seats.{SeatState}
+use Rattle.queue_protocol.specs.queue_law.declared.view.View.{View}
 use Rattle.linked_queue.specs.declared.queue.PopError.{PopError}
 use Rattle.linked_queue.specs.declared.queue.PopError.TheVariants as unpopped
 use Rattle.linked_queue.specs.Leaving.{aside}

@@ -1,27 +1,27 @@
 -- What a make with the deed MakeNode asks, and what it leaves.
 use Rattle.std.proofs.Common.{◌≡◌, ◌+◌, ◌<◌, true, refl, ap, sym, ◌∙◌, arith, ℕ, List}
 use Rattle.std.proofs.lemmas.Bool.Decides.{nat_tests}
-use Rattle.plain_state.specs.declared.act.PlainAct.TheVariants as plain
-use Rattle.plain_state.specs.declared.slot.SlotId.{SlotId}
-use Rattle.plain_state.specs.Lists.{is_slot, times}
-use Rattle.plain_state.specs.State.{no_payload}
-use Rattle.plain_protocol.specs.Owns.{HasSlot, Object}
-use Rattle.core_events.specs.declared.view.CoreView.{CoreView}
-use Rattle.core_events.specs.declared.view.Phase.{Phase}
-use Rattle.core_events.specs.declared.view.Phase.TheVariants as phase
-use Rattle.core_events.specs.Shows.{show_seat}
-use Rattle.core_events.specs.ShownSteps.{on_slot}
-use Rattle.core_events.specs.Views.{slot_of}
-use Rattle.domain_rule.specs.Told.{changed_object}
-use Rattle.domain_rule.specs.Views.{object_in, own_of}
-use Rattle.domain_rule.proofs.Others.{fills_has}
-use Rattle.acquire_retire.specs.Domains.{DomainState}
-use Rattle.acquire_retire.specs.Seats.{SeatState}
+use Rattle.queue_protocol.specs.plain_state.declared.act.PlainAct.TheVariants as plain
+use Rattle.queue_protocol.specs.plain_state.declared.slot.SlotId.{SlotId}
+use Rattle.queue_protocol.specs.plain_state.Lists.{is_slot, times}
+use Rattle.queue_protocol.specs.plain_state.State.{no_payload}
+use Rattle.queue_protocol.specs.plain_protocol.Owns.{HasSlot, Object}
+use Rattle.slot_store.specs.core_events.declared.view.CoreView.{CoreView}
+use Rattle.slot_store.specs.core_events.declared.view.Phase.{Phase}
+use Rattle.slot_store.specs.core_events.declared.view.Phase.TheVariants as phase
+use Rattle.slot_store.specs.core_events.Shows.{show_seat}
+use Rattle.slot_store.specs.core_events.ShownSteps.{on_slot}
+use Rattle.slot_store.specs.core_events.Views.{slot_of}
+use Rattle.slot_store.specs.domain_rule.Told.{changed_object}
+use Rattle.slot_store.specs.domain_rule.Views.{object_in, own_of}
+use Rattle.slot_store.proofs.Below.domain_rule.Others.{fills_has}
+use Rattle.slot_store.specs.acquire_retire.Domains.{DomainState}
+use Rattle.slot_store.specs.acquire_retire.Seats.{SeatState}
 use Rattle.slot_store.specs.Calls.{Begins, Makes}
-use Rattle.queue_law.specs.declared.view.View.{View}
-use Rattle.queue_law.specs.Lessons.{TellsNothing}
-use Rattle.queue_law.specs.Words.{life_in}
-use Rattle.queue_law.specs.Nodes.{MakeReady, make_next, made}
+use Rattle.queue_protocol.specs.queue_law.declared.view.View.{View}
+use Rattle.queue_protocol.specs.queue_law.Lessons.{TellsNothing}
+use Rattle.queue_protocol.specs.queue_law.Words.{life_in}
+use Rattle.queue_protocol.specs.queue_law.Nodes.{MakeReady, make_next, made}
 use Rattle.queue_protocol.specs.declared.law.QueueLaw.{QueueLaw}
 use Rattle.linked_queue.specs.Nodes.{HasNode}
 use Rattle.linked_queue.proofs.Owning.{own_life, own_payload}

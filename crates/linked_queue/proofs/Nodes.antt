@@ -1,36 +1,36 @@
 -- What a seat sees by the nodes of a queue that it loads.
 use Rattle.linked_queue.specs.Cells.{NodeTells}
-use Rattle.plain_state.specs.Steps.{word_of}
+use Rattle.queue_protocol.specs.plain_state.Steps.{word_of}
 use Rattle.std.proofs.Common.{◌≡◌, ◌⊎◌, inl, inr, ℕ, suc, ◌+◌, ◌-◌, ◌<◌, Bool, true, false, [], ◌∷◌, ◌++◌, length, refl, ap, sym, ◌∙◌, subst, arith, List}
 use Rattle.std.specs.Prelude.{cond, nat_lt, slice_set}
 use Rattle.std.proofs.lemmas.Bool.Decides.{nat_tests}
-use Rattle.plain_state.specs.declared.act.EventPlace.TheVariants.{Cell, Field}
-use Rattle.plain_state.specs.declared.act.PlainAct.{PlainAct}
-use Rattle.plain_state.specs.declared.act.PlainAct.TheVariants as plain
-use Rattle.plain_state.specs.declared.slot.Kind.TheVariants.{Strong}
-use Rattle.plain_state.specs.declared.slot.SlotId.{SlotId}
-use Rattle.plain_state.specs.Lists.{times}
-use Rattle.plain_state.specs.State.{Plain, no_payload}
-use Rattle.plain_protocol.specs.Owns.{Object}
-use Rattle.core_events.specs.declared.shape.Shape.{Shape}
-use Rattle.core_events.specs.declared.view.CoreView.{CoreView}
-use Rattle.core_events.specs.declared.view.Note.TheVariants as note
-use Rattle.core_events.specs.Shows.{show_seat}
-use Rattle.counted_handles.specs.declared.place.Place.TheVariants as place
-use Rattle.domain_rule.specs.Views.{object_in, own_of}
-use Rattle.acquire_retire.specs.Domains.{DomainState}
-use Rattle.acquire_retire.specs.Seats.{SeatState}
-use Rattle.control_word.specs.Moves.{KnowsStill}
-use Rattle.control_word.specs.Resting.{IsAtRest}
-use Rattle.protected_loads.specs.Loads.{FindsNull}
-use Rattle.protected_loads.specs.References.{IsReadyToLoad, Refers}
-use Rattle.protected_loads.proofs.Learning.{checked, client_found, client_null, has_found, known_found, slot_there, client_checked}
-use Rattle.protected_loads.proofs.Noting.{snapshot_gains, some_more}
-use Rattle.protected_loads.proofs.Telling.{four_notes}
-use Rattle.queue_law.specs.declared.view.View.{View}
-use Rattle.queue_law.specs.declared.view.Eyes.{Eyes}
-use Rattle.queue_law.specs.Lessons.{ItemReady, NextTells, TellsNothing, learn_next, learnt, next_next}
-use Rattle.queue_law.specs.Words.{held_times, life_in}
+use Rattle.queue_protocol.specs.plain_state.declared.act.EventPlace.TheVariants.{Cell, Field}
+use Rattle.queue_protocol.specs.plain_state.declared.act.PlainAct.{PlainAct}
+use Rattle.queue_protocol.specs.plain_state.declared.act.PlainAct.TheVariants as plain
+use Rattle.queue_protocol.specs.plain_state.declared.slot.Kind.TheVariants.{Strong}
+use Rattle.queue_protocol.specs.plain_state.declared.slot.SlotId.{SlotId}
+use Rattle.queue_protocol.specs.plain_state.Lists.{times}
+use Rattle.queue_protocol.specs.plain_state.State.{Plain, no_payload}
+use Rattle.queue_protocol.specs.plain_protocol.Owns.{Object}
+use Rattle.slot_store.specs.core_events.declared.shape.Shape.{Shape}
+use Rattle.slot_store.specs.core_events.declared.view.CoreView.{CoreView}
+use Rattle.slot_store.specs.core_events.declared.view.Note.TheVariants as note
+use Rattle.slot_store.specs.core_events.Shows.{show_seat}
+use Rattle.slot_store.specs.counted_handles.declared.place.Place.TheVariants as place
+use Rattle.slot_store.specs.domain_rule.Views.{object_in, own_of}
+use Rattle.slot_store.specs.acquire_retire.Domains.{DomainState}
+use Rattle.slot_store.specs.acquire_retire.Seats.{SeatState}
+use Rattle.slot_store.specs.control_word.Moves.{KnowsStill}
+use Rattle.slot_store.specs.control_word.Resting.{IsAtRest}
+use Rattle.part_calls.specs.protected_loads.Loads.{FindsNull}
+use Rattle.part_calls.specs.protected_loads.References.{IsReadyToLoad, Refers}
+use Rattle.part_calls.proofs.Below.protected_loads.Learning.{checked, client_found, client_null, has_found, known_found, slot_there, client_checked}
+use Rattle.part_calls.proofs.Below.protected_loads.Noting.{snapshot_gains, some_more}
+use Rattle.part_calls.proofs.Below.protected_loads.Telling.{four_notes}
+use Rattle.queue_protocol.specs.queue_law.declared.view.View.{View}
+use Rattle.queue_protocol.specs.queue_law.declared.view.Eyes.{Eyes}
+use Rattle.queue_protocol.specs.queue_law.Lessons.{ItemReady, NextTells, TellsNothing, learn_next, learnt, next_next}
+use Rattle.queue_protocol.specs.queue_law.Words.{held_times, life_in}
 use Rattle.queue_protocol.specs.declared.law.QueueLaw.{QueueLaw}
 use Rattle.linked_queue.specs.Items.{see_item_next}
 use Rattle.linked_queue.specs.Queues.{IsAttached, ends_of}

@@ -1,19 +1,19 @@
 -- What a seat owns after a call, and what it knows of the objects that it holds still.
-use Rattle.protocol_pairs.specs.Spared.{HasOneOf}
-use Rattle.plain_state.specs.State.{no_payload}
+use Rattle.queue_protocol.specs.protocol_pairs.Spared.{HasOneOf}
+use Rattle.queue_protocol.specs.plain_state.State.{no_payload}
 use Rattle.std.proofs.Common.{◌≡◌, ◌<◌, ◌≤◌, List, [], ◌∷◌, ◌++◌, refl, ap, sym, ◌∙◌, arith, subst}
 use Rattle.std.specs.Prelude.{Option, Some, None, if◌then◌else◌}
-use Rattle.plain_state.specs.declared.slot.SlotId.{SlotId}
-use Rattle.plain_state.specs.Lists.{times}
-use Rattle.plain_protocol.specs.Owns.{HasSlot}
-use Rattle.core_events.specs.declared.view.CoreView.{CoreView}
-use Rattle.core_events.specs.Shows.{show_seat}
-use Rattle.core_events.specs.Views.{Holds, held_times, without}
-use Rattle.core_law.proofs.Kit.{one_same, times_none, times_push, times_without}
-use Rattle.domain_rule.specs.Views.{object_in, own_of}
-use Rattle.acquire_retire.specs.Seats.{SeatState}
-use Rattle.protected_loads.proofs.Telling.{holds_has}
-use Rattle.queue_law.specs.Words.{life_in, life_of, payload_in, payload_of}
+use Rattle.queue_protocol.specs.plain_state.declared.slot.SlotId.{SlotId}
+use Rattle.queue_protocol.specs.plain_state.Lists.{times}
+use Rattle.queue_protocol.specs.plain_protocol.Owns.{HasSlot}
+use Rattle.slot_store.specs.core_events.declared.view.CoreView.{CoreView}
+use Rattle.slot_store.specs.core_events.Shows.{show_seat}
+use Rattle.slot_store.specs.core_events.Views.{Holds, held_times, without}
+use Rattle.slot_store.proofs.Below.core_law.Kit.{one_same, times_none, times_push, times_without}
+use Rattle.slot_store.specs.domain_rule.Views.{object_in, own_of}
+use Rattle.slot_store.specs.acquire_retire.Seats.{SeatState}
+use Rattle.part_calls.proofs.Below.protected_loads.Telling.{holds_has}
+use Rattle.queue_protocol.specs.queue_law.Words.{life_in, life_of, payload_in, payload_of}
 use Rattle.linked_queue.specs.Leaving.{Leaves, aside, with_found}
 use Rattle.linked_queue.proofs.Trails.{trail_then}
 

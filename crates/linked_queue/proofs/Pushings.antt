@@ -1,19 +1,19 @@
 -- What a push leaves of a seat, level by level.
 use Rattle.std.proofs.Common.{◌≡◌, ◌≢◌, ⊎_elim, ◌<◌, ◌≤◌, ℕ, List, [], ◌∷◌, ◌++◌, refl, ap, sym, ◌∙◌, subst, arith}
-use Rattle.plain_state.specs.declared.slot.SlotId.{SlotId}
-use Rattle.plain_state.specs.Lists.{times}
-use Rattle.plain_protocol.specs.Owns.{Object}
-use Rattle.core_events.specs.Views.{without}
-use Rattle.core_law.proofs.Kit.{one_other, one_same, slot_cases, times_push, times_without}
-use Rattle.domain_rule.specs.Views.{object_in}
-use Rattle.acquire_retire.specs.Domains.{DomainState}
-use Rattle.acquire_retire.specs.Seats.{SeatState}
-use Rattle.control_word.specs.Resting.{IsSpent}
+use Rattle.queue_protocol.specs.plain_state.declared.slot.SlotId.{SlotId}
+use Rattle.queue_protocol.specs.plain_state.Lists.{times}
+use Rattle.queue_protocol.specs.plain_protocol.Owns.{Object}
+use Rattle.slot_store.specs.core_events.Views.{without}
+use Rattle.slot_store.proofs.Below.core_law.Kit.{one_other, one_same, slot_cases, times_push, times_without}
+use Rattle.slot_store.specs.domain_rule.Views.{object_in}
+use Rattle.slot_store.specs.acquire_retire.Domains.{DomainState}
+use Rattle.slot_store.specs.acquire_retire.Seats.{SeatState}
+use Rattle.slot_store.specs.control_word.Resting.{IsSpent}
 use Rattle.slot_store.specs.declared.making.MakeError.{MakeError}
 use Rattle.slot_store.specs.declared.making.MakeError.TheVariants as refused
 use Rattle.queue_protocol.specs.declared.law.QueueLaw.{QueueLaw}
-use Rattle.queue_law.specs.declared.view.Load.{Load}
-use Rattle.queue_law.specs.declared.view.View.{View}
+use Rattle.queue_protocol.specs.queue_law.declared.view.Load.{Load}
+use Rattle.queue_protocol.specs.queue_law.declared.view.View.{View}
 use Rattle.linked_queue.specs.Leaving.{Leaves}
 use Rattle.linked_queue.specs.Nodes.{HasFewAdds, HasNode}
 use Rattle.linked_queue.specs.Pushes.{HasLoad, IsWhyRefused}

@@ -1,7 +1,7 @@
 -- Why a call that tries again has run out of adds.
 use Rattle.std.proofs.Common.{◌≡◌, ◌≤◌, ◌⊎◌, ⊎_elim, inl, inr, ℕ, ◌+◌, refl, arith}
-use Rattle.acquire_retire.specs.Seats.{SeatState}
-use Rattle.queue_law.specs.declared.view.View.{View}
+use Rattle.slot_store.specs.acquire_retire.Seats.{SeatState}
+use Rattle.queue_protocol.specs.queue_law.declared.view.View.{View}
 use Rattle.linked_queue.specs.Leaving.{TrailGoesOn}
 use Rattle.linked_queue.specs.Nodes.{HasFewAdds}
 use Rattle.linked_queue.specs.Waits.{IsWhyShort, LosesTry}

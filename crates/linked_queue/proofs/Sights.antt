@@ -1,31 +1,31 @@
 -- What a load with a deed that only notes what was found leaves of a seat, whatever it answers.
 use Rattle.std.proofs.Common.{◌≡◌, ℕ, suc, ◌+◌, ◌≤◌, ◌++◌, refl, ap, ◌∙◌, arith, List}
 use Rattle.std.specs.Prelude.{Err, IfErr, IfOk, Ok, Option, Result, Some, None}
-use Rattle.plain_state.specs.declared.act.PlainAct.{PlainAct}
-use Rattle.plain_state.specs.declared.act.PlainAct.TheVariants as plain
-use Rattle.plain_state.specs.declared.slot.Kind.TheVariants.{Strong}
-use Rattle.plain_state.specs.declared.slot.SlotId.{SlotId}
-use Rattle.plain_state.specs.Places.{place_kind}
-use Rattle.plain_state.specs.State.{Plain}
-use Rattle.plain_protocol.specs.Owns.{OwnPart}
-use Rattle.core_events.specs.declared.view.CoreView.{CoreView}
-use Rattle.core_events.specs.Words.{slot_in}
-use Rattle.counted_handles.specs.Handles.{Handle}
-use Rattle.counted_handles.specs.declared.place.Place.{Place}
-use Rattle.counted_handles.specs.declared.place.Place.TheVariants as place
-use Rattle.counted_handles.specs.declared.refusal.LoadError.{LoadError}
-use Rattle.counted_handles.specs.declared.refusal.LoadError.TheVariants as unloaded
-use Rattle.domain_rule.specs.Views.{own_of}
-use Rattle.acquire_retire.specs.Domains.{DomainState}
-use Rattle.acquire_retire.specs.Seats.{SeatState}
-use Rattle.atomic_shared.specs.Places.{named, strong_place}
-use Rattle.control_word.specs.Calls.{with_strong}
-use Rattle.control_word.specs.Moves.{KnowsStill}
-use Rattle.control_word.specs.Resting.{IsAtRest, IsSpent}
-use Rattle.protected_loads.specs.Loads.{Misses}
-use Rattle.protected_loads.specs.References.{Loads, loaded_by, with_reference}
-use Rattle.protected_loads.proofs.Learning.{client_found, client_moved, client_null}
-use Rattle.queue_law.specs.declared.view.View.{View}
+use Rattle.queue_protocol.specs.plain_state.declared.act.PlainAct.{PlainAct}
+use Rattle.queue_protocol.specs.plain_state.declared.act.PlainAct.TheVariants as plain
+use Rattle.queue_protocol.specs.plain_state.declared.slot.Kind.TheVariants.{Strong}
+use Rattle.queue_protocol.specs.plain_state.declared.slot.SlotId.{SlotId}
+use Rattle.queue_protocol.specs.plain_state.Places.{place_kind}
+use Rattle.queue_protocol.specs.plain_state.State.{Plain}
+use Rattle.queue_protocol.specs.plain_protocol.Owns.{OwnPart}
+use Rattle.slot_store.specs.core_events.declared.view.CoreView.{CoreView}
+use Rattle.slot_store.specs.core_events.Words.{slot_in}
+use Rattle.slot_store.specs.counted_handles.Handles.{Handle}
+use Rattle.slot_store.specs.counted_handles.declared.place.Place.{Place}
+use Rattle.slot_store.specs.counted_handles.declared.place.Place.TheVariants as place
+use Rattle.slot_store.specs.counted_handles.declared.refusal.LoadError.{LoadError}
+use Rattle.slot_store.specs.counted_handles.declared.refusal.LoadError.TheVariants as unloaded
+use Rattle.slot_store.specs.domain_rule.Views.{own_of}
+use Rattle.slot_store.specs.acquire_retire.Domains.{DomainState}
+use Rattle.slot_store.specs.acquire_retire.Seats.{SeatState}
+use Rattle.part_calls.specs.atomic_shared.Places.{named, strong_place}
+use Rattle.slot_store.specs.control_word.Calls.{with_strong}
+use Rattle.slot_store.specs.control_word.Moves.{KnowsStill}
+use Rattle.slot_store.specs.control_word.Resting.{IsAtRest, IsSpent}
+use Rattle.part_calls.specs.protected_loads.Loads.{Misses}
+use Rattle.part_calls.specs.protected_loads.References.{Loads, loaded_by, with_reference}
+use Rattle.part_calls.proofs.Below.protected_loads.Learning.{client_found, client_moved, client_null}
+use Rattle.queue_protocol.specs.queue_law.declared.view.View.{View}
 use Rattle.queue_protocol.specs.declared.law.QueueLaw.{QueueLaw}
 use Rattle.linked_queue.specs.Leaving.{Leaves, found_by, with_found}
 use Rattle.linked_queue.specs.Queues.{beside_eyes}

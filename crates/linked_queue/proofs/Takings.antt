@@ -1,30 +1,30 @@
 -- The exchange of the head cell: what its deed asks, and what it leaves.
 use Rattle.std.proofs.Common.{◌≡◌, ℕ, ◌+◌, ◌-◌, ◌<◌, Bool, true, false, [], ◌∷◌, ◌++◌, refl, ap, sym, ◌∙◌, arith, List}
 use Rattle.std.specs.Prelude.{◌==◌, Some, None, cond, if◌then◌else◌}
-use Rattle.plain_state.specs.declared.act.EventPlace.TheVariants.{Cell}
-use Rattle.plain_state.specs.declared.act.PlainAct.TheVariants as plain
-use Rattle.plain_state.specs.declared.slot.SlotId.{SlotId}
-use Rattle.plain_state.specs.Lists.{times}
-use Rattle.plain_protocol.specs.Owns.{Object}
-use Rattle.core_events.specs.declared.act.Act.TheVariants as act
-use Rattle.core_events.specs.declared.outcome.Outcome.{Outcome}
-use Rattle.core_events.specs.declared.outcome.Outcome.TheVariants as outcome
-use Rattle.core_events.specs.declared.view.CoreView.{CoreView}
-use Rattle.core_events.specs.Views.{without}
-use Rattle.core_events.specs.Words.{slot_in}
-use Rattle.domain_rule.specs.Views.{object_in, own_of}
-use Rattle.acquire_retire.specs.Calls.{IsReady, IsSameView, same_view}
-use Rattle.acquire_retire.specs.Domains.{DomainState}
-use Rattle.acquire_retire.specs.Seats.{SeatState}
-use Rattle.control_word.specs.Calls.{DropsStrong, GainsStrong, without_strong}
-use Rattle.control_word.specs.Moves.{KnowsStill}
-use Rattle.control_word.proofs.Finding.{slot_there}
-use Rattle.retiring_stores.specs.Exchanging.{LosesTo, Replaces}
-use Rattle.queue_law.specs.declared.view.Item.{Item}
-use Rattle.queue_law.specs.declared.view.View.{View}
-use Rattle.queue_law.specs.Lessons.{TellsNothing}
-use Rattle.queue_law.specs.Pops.{TakeReady, popped_item, popped_view, take_next}
-use Rattle.queue_law.specs.Words.{life_in, payload_in}
+use Rattle.queue_protocol.specs.plain_state.declared.act.EventPlace.TheVariants.{Cell}
+use Rattle.queue_protocol.specs.plain_state.declared.act.PlainAct.TheVariants as plain
+use Rattle.queue_protocol.specs.plain_state.declared.slot.SlotId.{SlotId}
+use Rattle.queue_protocol.specs.plain_state.Lists.{times}
+use Rattle.queue_protocol.specs.plain_protocol.Owns.{Object}
+use Rattle.slot_store.specs.core_events.declared.act.Act.TheVariants as act
+use Rattle.slot_store.specs.core_events.declared.outcome.Outcome.{Outcome}
+use Rattle.slot_store.specs.core_events.declared.outcome.Outcome.TheVariants as outcome
+use Rattle.slot_store.specs.core_events.declared.view.CoreView.{CoreView}
+use Rattle.slot_store.specs.core_events.Views.{without}
+use Rattle.slot_store.specs.core_events.Words.{slot_in}
+use Rattle.slot_store.specs.domain_rule.Views.{object_in, own_of}
+use Rattle.slot_store.specs.acquire_retire.Calls.{IsReady, IsSameView, same_view}
+use Rattle.slot_store.specs.acquire_retire.Domains.{DomainState}
+use Rattle.slot_store.specs.acquire_retire.Seats.{SeatState}
+use Rattle.slot_store.specs.control_word.Calls.{DropsStrong, GainsStrong, without_strong}
+use Rattle.slot_store.specs.control_word.Moves.{KnowsStill}
+use Rattle.slot_store.proofs.Below.control_word.Finding.{slot_there}
+use Rattle.slot_store.specs.retiring_stores.Exchanging.{LosesTo, Replaces}
+use Rattle.queue_protocol.specs.queue_law.declared.view.Item.{Item}
+use Rattle.queue_protocol.specs.queue_law.declared.view.View.{View}
+use Rattle.queue_protocol.specs.queue_law.Lessons.{TellsNothing}
+use Rattle.queue_protocol.specs.queue_law.Pops.{TakeReady, popped_item, popped_view, take_next}
+use Rattle.queue_protocol.specs.queue_law.Words.{life_in, payload_in}
 use Rattle.queue_protocol.specs.declared.law.QueueLaw.{QueueLaw}
 use Rattle.linked_queue.specs.Leaving.{Leaves}
 use Rattle.linked_queue.specs.Pops.{HasEmptied, item_in, popped_too}

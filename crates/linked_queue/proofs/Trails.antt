@@ -2,23 +2,23 @@
 use Rattle.std.proofs.Common.{◌≡◌, ⊎_elim, ℕ, List, [], ◌∷◌, ◌++◌, ap, sym, ◌∙◌, append_assoc}
 use Rattle.std.proofs.lemmas.List.{append-nil}
 use Rattle.std.specs.Prelude.{Option}
-use Rattle.plain_state.specs.declared.act.EventPlace.{EventPlace}
-use Rattle.plain_state.specs.declared.act.PlainAct.{PlainAct}
-use Rattle.plain_state.specs.declared.slot.SlotId.{SlotId}
-use Rattle.plain_state.specs.State.{Plain}
-use Rattle.plain_protocol.specs.Owns.{OwnPart}
-use Rattle.core_events.specs.declared.act.Act.{Act}
-use Rattle.core_events.specs.declared.outcome.Outcome.{Outcome}
-use Rattle.core_events.specs.declared.view.CoreView.{CoreView}
-use Rattle.core_events.specs.declared.view.Move.{Move}
-use Rattle.core_events.specs.Steps.{answer}
-use Rattle.core_law.proofs.Trails.{changed_trail}
-use Rattle.acquire_retire.specs.Calls.{IsSameView, Steps, same_view}
-use Rattle.acquire_retire.specs.Collecting.{WalksBy, move}
-use Rattle.acquire_retire.specs.Domains.{DomainState}
-use Rattle.acquire_retire.specs.Seats.{SeatState}
-use Rattle.retiring_stores.specs.Exchanging.{Exchanges}
-use Rattle.retiring_stores.specs.Scanning.{ScansWhereDue}
+use Rattle.queue_protocol.specs.plain_state.declared.act.EventPlace.{EventPlace}
+use Rattle.queue_protocol.specs.plain_state.declared.act.PlainAct.{PlainAct}
+use Rattle.queue_protocol.specs.plain_state.declared.slot.SlotId.{SlotId}
+use Rattle.queue_protocol.specs.plain_state.State.{Plain}
+use Rattle.queue_protocol.specs.plain_protocol.Owns.{OwnPart}
+use Rattle.slot_store.specs.core_events.declared.act.Act.{Act}
+use Rattle.slot_store.specs.core_events.declared.outcome.Outcome.{Outcome}
+use Rattle.slot_store.specs.core_events.declared.view.CoreView.{CoreView}
+use Rattle.slot_store.specs.core_events.declared.view.Move.{Move}
+use Rattle.slot_store.specs.core_events.Steps.{answer}
+use Rattle.slot_store.proofs.Below.core_law.Trails.{changed_trail}
+use Rattle.slot_store.specs.acquire_retire.Calls.{IsSameView, Steps, same_view}
+use Rattle.slot_store.specs.acquire_retire.Collecting.{WalksBy, move}
+use Rattle.slot_store.specs.acquire_retire.Domains.{DomainState}
+use Rattle.slot_store.specs.acquire_retire.Seats.{SeatState}
+use Rattle.slot_store.specs.retiring_stores.Exchanging.{Exchanges}
+use Rattle.slot_store.specs.retiring_stores.Scanning.{ScansWhereDue}
 use Rattle.linked_queue.specs.Leaving.{TrailGoesOn}
 
 module _ {V : Type 0} where

@@ -1,17 +1,17 @@
 -- What a seat finds that asks to take part in a queue.
 use Rattle.std.specs.Prelude.{◌≡◌, Bool, true, false, [], ◌∷◌, Option, Some, None, ℕ, List}
-use Rattle.plain_state.specs.declared.act.EventPlace.TheVariants.{Cell}
-use Rattle.plain_state.specs.declared.slot.SlotId.{SlotId}
-use Rattle.plain_state.specs.Places.{content}
-use Rattle.core_events.specs.declared.act.Act.TheVariants as act
-use Rattle.core_events.specs.declared.outcome.Outcome.TheVariants as outcome
-use Rattle.core_events.specs.Shows.{shows}
-use Rattle.acquire_retire.specs.Collecting.{move}
-use Rattle.acquire_retire.specs.Domains.{DomainState}
-use Rattle.acquire_retire.specs.Seats.{SeatState}
-use Rattle.control_word.specs.Moves.{Becomes, last_core}
-use Rattle.queue_law.specs.Lessons.{AttachTells, attach_next}
-use Rattle.queue_law.specs.declared.view.View.{View}
+use Rattle.queue_protocol.specs.plain_state.declared.act.EventPlace.TheVariants.{Cell}
+use Rattle.queue_protocol.specs.plain_state.declared.slot.SlotId.{SlotId}
+use Rattle.queue_protocol.specs.plain_state.Places.{content}
+use Rattle.slot_store.specs.core_events.declared.act.Act.TheVariants as act
+use Rattle.slot_store.specs.core_events.declared.outcome.Outcome.TheVariants as outcome
+use Rattle.slot_store.specs.core_events.Shows.{shows}
+use Rattle.slot_store.specs.acquire_retire.Collecting.{move}
+use Rattle.slot_store.specs.acquire_retire.Domains.{DomainState}
+use Rattle.slot_store.specs.acquire_retire.Seats.{SeatState}
+use Rattle.slot_store.specs.control_word.Moves.{Becomes, last_core}
+use Rattle.queue_protocol.specs.queue_law.Lessons.{AttachTells, attach_next}
+use Rattle.queue_protocol.specs.queue_law.declared.view.View.{View}
 use Rattle.queue_protocol.specs.declared.law.QueueLaw.{QueueLaw}
 use Rattle.linked_queue.specs.Queues.{ends_of}
 

@@ -1,14 +1,14 @@
 -- What a load of the head cell or the tail cell tells an attached seat.
 use Rattle.std.proofs.Common.{◌≡◌, ◌≢◌, ⊎_elim, ℕ, true, false, arith}
-use Rattle.plain_state.specs.State.{Plain}
-use Rattle.plain_protocol.specs.Laws.{Keeps}
-use Rattle.queue_law.specs.declared.view.View.{View}
-use Rattle.queue_law.specs.Chain.{Ends}
-use Rattle.queue_law.specs.Law.{WholeLaw}
-use Rattle.queue_law.specs.Lessons.{CellTells, LearnReady, learn_next}
-use Rattle.queue_law.specs.Views.{first_view}
-use Rattle.queue_law.specs.Words.{cell_at}
-use Rattle.queue_law.proofs.Deeds as deeds
+use Rattle.queue_protocol.specs.plain_state.State.{Plain}
+use Rattle.queue_protocol.specs.plain_protocol.Laws.{Keeps}
+use Rattle.queue_protocol.specs.queue_law.declared.view.View.{View}
+use Rattle.queue_protocol.specs.queue_law.Chain.{Ends}
+use Rattle.queue_protocol.specs.queue_law.Law.{WholeLaw}
+use Rattle.queue_protocol.specs.queue_law.Lessons.{CellTells, LearnReady, learn_next}
+use Rattle.queue_protocol.specs.queue_law.Views.{first_view}
+use Rattle.queue_protocol.specs.queue_law.Words.{cell_at}
+use Rattle.queue_protocol.proofs.Below.queue_law.Deeds as deeds
 
 -- what the cell held is a node; and where the seat is attached, the cell wasn't null
 abbrev pub NodeTells : ℕ → Plain → Plain → ℕ → View → View → Type 0

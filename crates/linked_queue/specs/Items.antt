@@ -2,30 +2,30 @@
 -- none.
 use Rattle.std.proofs.Common.{◌≡◌, ◌≢◌, ⊎_elim, ℕ, zero, suc, ◌+◌, ◌<◌, ◌≤◌, length, ap, sym, ◌∙◌, subst, arith}
 use Rattle.std.proofs.lemmas.List.{get_or_past}
-use Rattle.plain_state.specs.declared.act.EventPlace.TheVariants.{Cell}
-use Rattle.plain_state.specs.declared.act.PlainAct.{PlainAct}
-use Rattle.plain_state.specs.declared.slot.PlainSlot.{PlainSlot}
-use Rattle.plain_state.specs.State.{Plain, new_slot}
-use Rattle.plain_protocol.specs.Laws as laws
-use Rattle.plain_protocol.specs.Owns.{OwnPart}
-use Rattle.acquire_retire.specs.Calls.{same_view}
-use Rattle.queue_law.specs.declared.view.View.{View}
-use Rattle.queue_law.specs.Chain.{Ends, sent}
-use Rattle.queue_law.specs.Law.{QueueLaw, WholeLaw}
-use Rattle.queue_law.specs.Lessons.{ItemReady, Reads, TellsNothing}
-use Rattle.queue_law.specs.Notes.{Sees}
-use Rattle.queue_law.specs.Owned.{Keeps}
-use Rattle.queue_law.specs.Views.{first_view}
-use Rattle.queue_law.specs.Words.{cell_at, code, held_times, life_in, second_of, slot_at}
-use Rattle.queue_law.proofs.Calm.{calm_queue, quiet_on}
-use Rattle.queue_law.proofs.Chain.{the_head}
-use Rattle.queue_law.proofs.Effects.{calm_quiet}
-use Rattle.queue_law.proofs.Kit.{referred, refs_second}
-use Rattle.queue_law.proofs.Lessons as lessons
-use Rattle.queue_law.proofs.Lessons.{reads_calm, reads_found}
-use Rattle.queue_law.proofs.Notes.{sees_at_on, unchanged}
-use Rattle.queue_law.proofs.Seen.{reseen, seen_here}
-use Rattle.queue_law.proofs.Whole.{Tells, whole_deed, whole_told}
+use Rattle.queue_protocol.specs.plain_state.declared.act.EventPlace.TheVariants.{Cell}
+use Rattle.queue_protocol.specs.plain_state.declared.act.PlainAct.{PlainAct}
+use Rattle.queue_protocol.specs.plain_state.declared.slot.PlainSlot.{PlainSlot}
+use Rattle.queue_protocol.specs.plain_state.State.{Plain, new_slot}
+use Rattle.queue_protocol.specs.plain_protocol.Laws as laws
+use Rattle.queue_protocol.specs.plain_protocol.Owns.{OwnPart}
+use Rattle.slot_store.specs.acquire_retire.Calls.{same_view}
+use Rattle.queue_protocol.specs.queue_law.declared.view.View.{View}
+use Rattle.queue_protocol.specs.queue_law.Chain.{Ends, sent}
+use Rattle.queue_protocol.specs.queue_law.Law.{QueueLaw, WholeLaw}
+use Rattle.queue_protocol.specs.queue_law.Lessons.{ItemReady, Reads, TellsNothing}
+use Rattle.queue_protocol.specs.queue_law.Notes.{Sees}
+use Rattle.queue_protocol.specs.queue_law.Owned.{Keeps}
+use Rattle.queue_protocol.specs.queue_law.Views.{first_view}
+use Rattle.queue_protocol.specs.queue_law.Words.{cell_at, code, held_times, life_in, second_of, slot_at}
+use Rattle.queue_protocol.proofs.Below.queue_law.Calm.{calm_queue, quiet_on}
+use Rattle.queue_protocol.proofs.Below.queue_law.Chain.{the_head}
+use Rattle.queue_protocol.proofs.Below.queue_law.Effects.{calm_quiet}
+use Rattle.queue_protocol.proofs.Below.queue_law.Kit.{referred, refs_second}
+use Rattle.queue_protocol.proofs.Below.queue_law.Lessons as lessons
+use Rattle.queue_protocol.proofs.Below.queue_law.Lessons.{reads_calm, reads_found}
+use Rattle.queue_protocol.proofs.Below.queue_law.Notes.{sees_at_on, unchanged}
+use Rattle.queue_protocol.proofs.Below.queue_law.Seen.{reseen, seen_here}
+use Rattle.queue_protocol.proofs.Below.queue_law.Whole.{Tells, whole_deed, whole_told}
 
 -- the item's word; where there is none, the word of a slot that isn't there, if there are so many slots
 abbrev pub item_or_gone : ℕ → ℕ → ℕ

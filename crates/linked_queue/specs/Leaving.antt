@@ -1,15 +1,15 @@
 -- What a call leaves of a seat.
 use Rattle.std.specs.Prelude.{◌≡◌, ◌≤◌, List, [], ◌∷◌, ◌++◌, Option, Some, None, Result, Ok, Err}
-use Rattle.plain_state.specs.declared.slot.SlotId.{SlotId}
-use Rattle.plain_state.specs.Lists.{times}
-use Rattle.core_events.specs.declared.view.CoreView.{CoreView}
-use Rattle.core_events.specs.declared.view.Move.{Move}
-use Rattle.core_events.specs.Views.{Holds, without}
-use Rattle.counted_handles.specs.Handles.{Handle}
-use Rattle.atomic_shared.specs.Places.{named}
-use Rattle.domain_rule.specs.Views.{object_in}
-use Rattle.acquire_retire.specs.Collecting.{rest_of}
-use Rattle.acquire_retire.specs.Seats.{SeatState}
+use Rattle.queue_protocol.specs.plain_state.declared.slot.SlotId.{SlotId}
+use Rattle.queue_protocol.specs.plain_state.Lists.{times}
+use Rattle.slot_store.specs.core_events.declared.view.CoreView.{CoreView}
+use Rattle.slot_store.specs.core_events.declared.view.Move.{Move}
+use Rattle.slot_store.specs.core_events.Views.{Holds, without}
+use Rattle.slot_store.specs.counted_handles.Handles.{Handle}
+use Rattle.part_calls.specs.atomic_shared.Places.{named}
+use Rattle.slot_store.specs.domain_rule.Views.{object_in}
+use Rattle.slot_store.specs.acquire_retire.Collecting.{rest_of}
+use Rattle.slot_store.specs.acquire_retire.Seats.{SeatState}
 
 -- what a seat has beside the references that it owns strongly, its batch, its dying and ripe slots, and its trail; and
 -- beside how many objects it made and how many adds it used

@@ -1,3 +1,7 @@
+-- What callers cite of the crates below.
+pub use Rattle.queue_protocol.specs.queue_law as queue_law
+pub use Rattle.queue_protocol.specs as queue_protocol
+-- Its own.
 pub mod UnlessRipe
 pub mod Attaching
 pub mod Cells

@@ -1,17 +1,17 @@
 -- How a pop was lost to another seat: all events of such a try in order. A place of the queue, or the field of the item
 -- that is to be read, showed `seen` and then `now` to two of them, and none of them changed it.
 use Rattle.std.specs.Prelude.{ℕ, ◌≡◌, ◌⊎◌, ◌+◌, true, Option, Some, None, List}
-use Rattle.plain_state.specs.declared.act.EventPlace.TheVariants.{Cell, Field}
-use Rattle.plain_state.specs.declared.slot.SlotId.{SlotId}
-use Rattle.acquire_retire.specs.Calls.{IsSameView, same_view}
-use Rattle.acquire_retire.specs.Domains.{DomainState}
-use Rattle.acquire_retire.specs.Seats.{SeatState}
-use Rattle.control_word.specs.Calls.{DropsStrong, GainsStrong}
-use Rattle.protected_loads.specs.References.{Refers}
-use Rattle.retiring_stores.specs.Exchanging.{LosesTo}
-use Rattle.queue_law.specs.Lessons.{NextTells, TellsNothing, learn_next, next_next}
-use Rattle.queue_law.specs.Pops.{take_next}
-use Rattle.queue_law.specs.declared.view.View.{View}
+use Rattle.queue_protocol.specs.plain_state.declared.act.EventPlace.TheVariants.{Cell, Field}
+use Rattle.queue_protocol.specs.plain_state.declared.slot.SlotId.{SlotId}
+use Rattle.slot_store.specs.acquire_retire.Calls.{IsSameView, same_view}
+use Rattle.slot_store.specs.acquire_retire.Domains.{DomainState}
+use Rattle.slot_store.specs.acquire_retire.Seats.{SeatState}
+use Rattle.slot_store.specs.control_word.Calls.{DropsStrong, GainsStrong}
+use Rattle.part_calls.specs.protected_loads.References.{Refers}
+use Rattle.slot_store.specs.retiring_stores.Exchanging.{LosesTo}
+use Rattle.queue_protocol.specs.queue_law.Lessons.{NextTells, TellsNothing, learn_next, next_next}
+use Rattle.queue_protocol.specs.queue_law.Pops.{take_next}
+use Rattle.queue_protocol.specs.queue_law.declared.view.View.{View}
 use Rattle.queue_protocol.specs.declared.law.QueueLaw.{QueueLaw}
 use Rattle.linked_queue.specs.declared.queue.PopError.{PopError}
 use Rattle.linked_queue.specs.Cells.{HeadTells}

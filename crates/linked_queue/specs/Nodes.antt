@@ -1,26 +1,26 @@
 -- A node of the seat's own, and how a queue is laid with one.
 use Rattle.std.specs.Prelude.{ℕ, ◌≡◌, ◌⊎◌, ◌+◌, ◌<◌, ◌≤◌, true, [], Some, List}
-use Rattle.plain_state.specs.declared.act.EventPlace.TheVariants.{Cell}
-use Rattle.plain_state.specs.declared.slot.SlotId.{SlotId}
-use Rattle.plain_state.specs.Lists.{times}
-use Rattle.plain_state.specs.State.{no_payload}
-use Rattle.core_events.specs.declared.view.CoreView.{CoreView}
-use Rattle.domain_rule.specs.Views.{object_in}
-use Rattle.acquire_retire.specs.Calls.{IsSameView, same_view}
-use Rattle.acquire_retire.specs.Domains.{DomainState}
-use Rattle.acquire_retire.specs.Seats.{SeatState}
-use Rattle.control_word.specs.Calls.{DropsStrong, GainsStrong}
-use Rattle.control_word.specs.Resting.{IsSpent}
-use Rattle.retiring_stores.specs.Exchanging.{Stores}
+use Rattle.queue_protocol.specs.plain_state.declared.act.EventPlace.TheVariants.{Cell}
+use Rattle.queue_protocol.specs.plain_state.declared.slot.SlotId.{SlotId}
+use Rattle.queue_protocol.specs.plain_state.Lists.{times}
+use Rattle.queue_protocol.specs.plain_state.State.{no_payload}
+use Rattle.slot_store.specs.core_events.declared.view.CoreView.{CoreView}
+use Rattle.slot_store.specs.domain_rule.Views.{object_in}
+use Rattle.slot_store.specs.acquire_retire.Calls.{IsSameView, same_view}
+use Rattle.slot_store.specs.acquire_retire.Domains.{DomainState}
+use Rattle.slot_store.specs.acquire_retire.Seats.{SeatState}
+use Rattle.slot_store.specs.control_word.Calls.{DropsStrong, GainsStrong}
+use Rattle.slot_store.specs.control_word.Resting.{IsSpent}
+use Rattle.slot_store.specs.retiring_stores.Exchanging.{Stores}
 use Rattle.slot_store.specs.declared.making.MakeError.{MakeError}
 use Rattle.slot_store.specs.declared.making.MakeError.TheVariants as refused
 use Rattle.slot_store.specs.Calls.{HasNoMake, Makes}
 use Rattle.slot_store.specs.Searching.{Misses}
-use Rattle.queue_law.specs.Lessons.{TellsNothing}
-use Rattle.queue_law.specs.Nodes.{make_next}
-use Rattle.queue_law.specs.Opening.{lay_head_next, lay_tail_next}
-use Rattle.queue_law.specs.declared.view.View.{View}
-use Rattle.queue_law.specs.Views.{no_load, sees_node}
+use Rattle.queue_protocol.specs.queue_law.Lessons.{TellsNothing}
+use Rattle.queue_protocol.specs.queue_law.Nodes.{make_next}
+use Rattle.queue_protocol.specs.queue_law.Opening.{lay_head_next, lay_tail_next}
+use Rattle.queue_protocol.specs.queue_law.declared.view.View.{View}
+use Rattle.queue_protocol.specs.queue_law.Views.{no_load, sees_node}
 use Rattle.queue_protocol.specs.declared.law.QueueLaw.{QueueLaw}
 
 -- at most so many adds are left

@@ -1,10 +1,10 @@
 -- Why the push of a copy pushed nothing.
 use Rattle.std.specs.Prelude.{ℕ, List, Option, Some, None}
-use Rattle.plain_state.specs.declared.slot.SlotId.{SlotId}
+use Rattle.queue_protocol.specs.plain_state.declared.slot.SlotId.{SlotId}
 use Rattle.slot_store.specs.declared.making.MakeError.{MakeError}
-use Rattle.acquire_retire.specs.Domains.{DomainState}
-use Rattle.acquire_retire.specs.Seats.{SeatState}
-use Rattle.queue_law.specs.declared.view.View.{View}
+use Rattle.slot_store.specs.acquire_retire.Domains.{DomainState}
+use Rattle.slot_store.specs.acquire_retire.Seats.{SeatState}
+use Rattle.queue_protocol.specs.queue_law.declared.view.View.{View}
 use Rattle.queue_protocol.specs.declared.law.QueueLaw.{QueueLaw}
 use Rattle.linked_queue.specs.declared.pushing.NotPushed.{NotPushed}
 use Rattle.linked_queue.specs.declared.pushing.NotPushed.TheVariants as failed

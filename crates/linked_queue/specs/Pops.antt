@@ -1,25 +1,25 @@
 -- What a pop does, and what it leaves.
-use Rattle.plain_state.specs.State.{no_payload}
+use Rattle.queue_protocol.specs.plain_state.State.{no_payload}
 use Rattle.std.specs.Prelude.{ℕ, ◌≡◌, ◌+◌, ◌<◌, true, [], ◌∷◌, ◌++◌, Option, Some, None, Result, Ok, Err, IfSome, List}
-use Rattle.plain_state.specs.declared.act.EventPlace.TheVariants.{Cell, Field}
-use Rattle.plain_state.specs.declared.slot.SlotId.{SlotId}
-use Rattle.plain_state.specs.Lists.{times}
-use Rattle.core_events.specs.declared.view.CoreView.{CoreView}
-use Rattle.counted_handles.specs.declared.refusal.LoadError.{LoadError}
-use Rattle.counted_handles.specs.declared.refusal.LoadError.TheVariants as unloaded
-use Rattle.domain_rule.specs.Views.{object_in}
-use Rattle.acquire_retire.specs.Calls.{IsSameView, same_view}
-use Rattle.acquire_retire.specs.Domains.{DomainState}
-use Rattle.acquire_retire.specs.Seats.{SeatState}
-use Rattle.control_word.specs.Calls.{DropsStrong, GainsStrong}
-use Rattle.atomic_shared.specs.Places.{named}
-use Rattle.counted_handles.specs.Handles.{Handle}
-use Rattle.protected_loads.specs.References.{Loads, Refers}
-use Rattle.retiring_stores.specs.Exchanging.{Replaces, Stores}
-use Rattle.queue_law.specs.Lessons.{NextTells, TellsNothing, learn_next, next_next}
-use Rattle.queue_law.specs.Pops.{empty_next, take_next}
-use Rattle.queue_law.specs.declared.view.Item.{Item}
-use Rattle.queue_law.specs.declared.view.View.{View}
+use Rattle.queue_protocol.specs.plain_state.declared.act.EventPlace.TheVariants.{Cell, Field}
+use Rattle.queue_protocol.specs.plain_state.declared.slot.SlotId.{SlotId}
+use Rattle.queue_protocol.specs.plain_state.Lists.{times}
+use Rattle.slot_store.specs.core_events.declared.view.CoreView.{CoreView}
+use Rattle.slot_store.specs.counted_handles.declared.refusal.LoadError.{LoadError}
+use Rattle.slot_store.specs.counted_handles.declared.refusal.LoadError.TheVariants as unloaded
+use Rattle.slot_store.specs.domain_rule.Views.{object_in}
+use Rattle.slot_store.specs.acquire_retire.Calls.{IsSameView, same_view}
+use Rattle.slot_store.specs.acquire_retire.Domains.{DomainState}
+use Rattle.slot_store.specs.acquire_retire.Seats.{SeatState}
+use Rattle.slot_store.specs.control_word.Calls.{DropsStrong, GainsStrong}
+use Rattle.part_calls.specs.atomic_shared.Places.{named}
+use Rattle.slot_store.specs.counted_handles.Handles.{Handle}
+use Rattle.part_calls.specs.protected_loads.References.{Loads, Refers}
+use Rattle.slot_store.specs.retiring_stores.Exchanging.{Replaces, Stores}
+use Rattle.queue_protocol.specs.queue_law.Lessons.{NextTells, TellsNothing, learn_next, next_next}
+use Rattle.queue_protocol.specs.queue_law.Pops.{empty_next, take_next}
+use Rattle.queue_protocol.specs.queue_law.declared.view.Item.{Item}
+use Rattle.queue_protocol.specs.queue_law.declared.view.View.{View}
 use Rattle.queue_protocol.specs.declared.law.QueueLaw.{QueueLaw}
 use Rattle.linked_queue.specs.declared.queue.PopError.{PopError}
 use Rattle.linked_queue.specs.declared.queue.PopError.TheVariants as unpopped

@@ -2,20 +2,20 @@
 -- the node there, found another word than the look before it; or a look at the tail cell did so, which had gone on; or
 -- the exchange of field 0 of the last node didn't find null, as a look before it had.
 use Rattle.std.specs.Prelude.{ℕ, ◌≡◌, ◌≢◌, ◌⊎◌, ◌+◌, false, Some, None, List}
-use Rattle.plain_state.specs.declared.act.EventPlace.TheVariants.{Cell, Field}
-use Rattle.plain_state.specs.declared.slot.SlotId.{SlotId}
-use Rattle.core_events.specs.declared.act.Act.TheVariants as act
-use Rattle.core_events.specs.declared.outcome.Outcome.TheVariants as outcome
-use Rattle.core_events.specs.Words.{slot_in}
-use Rattle.acquire_retire.specs.Calls.{IsSameView, Steps, same_view}
-use Rattle.acquire_retire.specs.Domains.{DomainState}
-use Rattle.acquire_retire.specs.Seats.{SeatState}
-use Rattle.control_word.specs.Calls.{DropsStrong, GainsStrong}
-use Rattle.protected_loads.specs.References.{Refers}
-use Rattle.retiring_stores.specs.Exchanging.{LosesTo}
-use Rattle.queue_law.specs.Lessons.{NextTells, PassedTells, TellsNothing, learn_next, next_next, passed_next}
-use Rattle.queue_law.specs.Pushes.{link_next}
-use Rattle.queue_law.specs.declared.view.View.{View}
+use Rattle.queue_protocol.specs.plain_state.declared.act.EventPlace.TheVariants.{Cell, Field}
+use Rattle.queue_protocol.specs.plain_state.declared.slot.SlotId.{SlotId}
+use Rattle.slot_store.specs.core_events.declared.act.Act.TheVariants as act
+use Rattle.slot_store.specs.core_events.declared.outcome.Outcome.TheVariants as outcome
+use Rattle.slot_store.specs.core_events.Words.{slot_in}
+use Rattle.slot_store.specs.acquire_retire.Calls.{IsSameView, Steps, same_view}
+use Rattle.slot_store.specs.acquire_retire.Domains.{DomainState}
+use Rattle.slot_store.specs.acquire_retire.Seats.{SeatState}
+use Rattle.slot_store.specs.control_word.Calls.{DropsStrong, GainsStrong}
+use Rattle.part_calls.specs.protected_loads.References.{Refers}
+use Rattle.slot_store.specs.retiring_stores.Exchanging.{LosesTo}
+use Rattle.queue_protocol.specs.queue_law.Lessons.{NextTells, PassedTells, TellsNothing, learn_next, next_next, passed_next}
+use Rattle.queue_protocol.specs.queue_law.Pushes.{link_next}
+use Rattle.queue_protocol.specs.queue_law.declared.view.View.{View}
 use Rattle.queue_protocol.specs.declared.law.QueueLaw.{QueueLaw}
 use Rattle.linked_queue.specs.declared.queue.PushError.{PushError}
 use Rattle.linked_queue.specs.declared.queue.PushError.TheVariants as unpushed

@@ -1,10 +1,10 @@
 -- When a call on a queue may be made: what the domain has, and what the seat's view says.
 use Rattle.std.specs.Prelude.{ℕ, ◌≡◌, ◌<◌, true}
-use Rattle.acquire_retire.specs.Domains.{DomainState}
-use Rattle.queue_law.specs.Chain.{Ends, ends}
-use Rattle.queue_law.specs.declared.view.View.{View}
-use Rattle.queue_law.specs.declared.view.Form.TheVariants.{Linked}
-use Rattle.queue_law.specs.Views.{no_eyes, no_load}
+use Rattle.slot_store.specs.acquire_retire.Domains.{DomainState}
+use Rattle.queue_protocol.specs.queue_law.Chain.{Ends, ends}
+use Rattle.queue_protocol.specs.queue_law.declared.view.View.{View}
+use Rattle.queue_protocol.specs.queue_law.declared.view.Form.TheVariants.{Linked}
+use Rattle.queue_protocol.specs.queue_law.Views.{no_eyes, no_load}
 use Rattle.queue_protocol.specs.declared.law.QueueLaw.{QueueLaw}
 
 -- the queue of which the domain's law is

@@ -1,15 +1,15 @@
 -- How a queue is shut.
 use Rattle.std.specs.Prelude.{◌≡◌, true, false, length, None, ℕ, List}
-use Rattle.plain_state.specs.declared.act.EventPlace.TheVariants.{Cell}
-use Rattle.domain_rule.specs.Views.{own_of}
-use Rattle.acquire_retire.specs.Domains.{DomainState}
-use Rattle.acquire_retire.specs.Seats.{SeatState}
-use Rattle.retiring_stores.specs.Exchanging.{Stores}
-use Rattle.queue_law.specs.declared.view.View.{View}
-use Rattle.queue_law.specs.Chain.{Ends}
-use Rattle.queue_law.specs.Lessons.{TellsNothing}
-use Rattle.queue_law.specs.Opening.{shut_head_next, shut_tail_next, waiting_in}
-use Rattle.queue_law.specs.Words.{whole_of}
+use Rattle.queue_protocol.specs.plain_state.declared.act.EventPlace.TheVariants.{Cell}
+use Rattle.slot_store.specs.domain_rule.Views.{own_of}
+use Rattle.slot_store.specs.acquire_retire.Domains.{DomainState}
+use Rattle.slot_store.specs.acquire_retire.Seats.{SeatState}
+use Rattle.slot_store.specs.retiring_stores.Exchanging.{Stores}
+use Rattle.queue_protocol.specs.queue_law.declared.view.View.{View}
+use Rattle.queue_protocol.specs.queue_law.Chain.{Ends}
+use Rattle.queue_protocol.specs.queue_law.Lessons.{TellsNothing}
+use Rattle.queue_protocol.specs.queue_law.Opening.{shut_head_next, shut_tail_next, waiting_in}
+use Rattle.queue_protocol.specs.queue_law.Words.{whole_of}
 use Rattle.queue_protocol.specs.declared.law.QueueLaw.{QueueLaw}
 use Rattle.linked_queue.specs.Queues.{ends_of}
 

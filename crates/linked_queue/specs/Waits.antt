@@ -5,15 +5,15 @@ use Rattle.linked_queue.specs.Pushes.{Advances, LinksLast, LoadsNode}
 use Rattle.linked_queue.specs.PushLosses.{LosesLast}
 use Rattle.slot_store.specs.declared.making.MakeError.{MakeError}
 use Rattle.slot_store.specs.declared.making.MakeError.TheVariants as refused
-use Rattle.control_word.specs.Calls.{DropsStrong}
-use Rattle.control_word.specs.Resting.{IsSpent}
+use Rattle.slot_store.specs.control_word.Calls.{DropsStrong}
+use Rattle.slot_store.specs.control_word.Resting.{IsSpent}
 use Rattle.slot_store.specs.Calls.{HasNoMake}
 use Rattle.slot_store.specs.Searching.{Misses as MissesSlots}
 use Rattle.std.specs.Prelude.{ℕ, ◌≡◌, ◌⊎◌, true, List, Option, None}
-use Rattle.plain_state.specs.declared.slot.SlotId.{SlotId}
-use Rattle.acquire_retire.specs.Domains.{DomainState}
-use Rattle.acquire_retire.specs.Seats.{SeatState}
-use Rattle.queue_law.specs.declared.view.View.{View}
+use Rattle.queue_protocol.specs.plain_state.declared.slot.SlotId.{SlotId}
+use Rattle.slot_store.specs.acquire_retire.Domains.{DomainState}
+use Rattle.slot_store.specs.acquire_retire.Seats.{SeatState}
+use Rattle.queue_protocol.specs.queue_law.declared.view.View.{View}
 use Rattle.queue_protocol.specs.declared.law.QueueLaw.{QueueLaw}
 use Rattle.linked_queue.specs.Attaching.{LooksAtHead, is_slot}
 use Rattle.linked_queue.specs.Leaving.{Leaves, TrailGoesOn}

@@ -3,23 +3,21 @@
 //! Where something is linked behind that node too, the tail cell has gone on already: it is one behind the last node at
 //! most. Then the seat has noted so, and a look at the tail cell finds another word than the load of it did.
 ghost use Rattle.std.specs.Prelude.{◌≡◌, ◌≢◌, ◌<◌, ◌≤◌, ◌+◌, true, IfErr, IfOk, IfSome};
-ghost use Rattle.core_events.specs.Steps.{HasRoom};
-ghost use Rattle.control_word.specs.Resting.{IsAtRest, IsSpent};
-ghost use Rattle.counted_handles.specs.declared.refusal.LoadError.TheVariants as unloaded;
-ghost use Rattle.queue_law.specs.declared.view.Form.TheVariants.{Linked};
+ghost use Rattle.slot_store.specs.core_events.Steps.{HasRoom};
+ghost use Rattle.slot_store.specs.control_word.Resting.{IsAtRest, IsSpent};
+ghost use Rattle.slot_store.specs.counted_handles.declared.refusal.LoadError.TheVariants as unloaded;
+ghost use Rattle.queue_protocol.specs.queue_law.declared.view.Form.TheVariants.{Linked};
 ghost use Rattle.part_calls.specs.Parts.{HasBeside, as_part, seen_by};
-ghost use Rattle.queue_law.specs.Views.{first_view};
+ghost use Rattle.queue_protocol.specs.queue_law.Views.{first_view};
 ghost use Rattle.linked_queue.specs.Leaving.{Leaves};
 ghost use Rattle.linked_queue.specs.Pushes.{HelpsOn, IsWhyUnlinked, LooksAhead, SeesBehind, SeesTail};
 ghost use Rattle.linked_queue.specs.PushLosses.{LooksAtTail, LosesPassed};
 ghost use Rattle.linked_queue.specs.Queues.{IsAttached, beside_eyes};
 
 use crate::linking::help;
-use acquire_retire::{Domain, EventPlace, Outcome, Seat, SlotId};
-use core_functions::held_as;
-use counted_handles::Strong;
 use part_calls::{LoadError, look};
 use queue_protocol::{FindPassed, HasQueue, LookAhead, QueueLaw};
+use slot_store::{Domain, EventPlace, Outcome, Seat, SlotId, Strong, held_as};
 
 /// Advances the tail cell to the node behind one that it held, where nothing is linked behind that node yet.
 pub(crate) fn help_on<S, P: HasQueue<S>>(

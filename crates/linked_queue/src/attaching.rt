@@ -1,17 +1,17 @@
 //! How a seat comes to take part in a queue.
 ghost use Rattle.std.specs.Prelude.{◌≡◌, ◌<◌, if◌then◌else◌};
-ghost use Rattle.core_events.specs.Steps.{HasRoom};
-ghost use Rattle.control_word.specs.Resting.{IsAtRest};
+ghost use Rattle.slot_store.specs.core_events.Steps.{HasRoom};
+ghost use Rattle.slot_store.specs.control_word.Resting.{IsAtRest};
 ghost use Rattle.part_calls.specs.Parts.{HasBeside, StaysBeside, as_part, seen_by};
-ghost use Rattle.queue_law.specs.Views.{first_view};
+ghost use Rattle.queue_protocol.specs.queue_law.Views.{first_view};
 ghost use Rattle.linked_queue.specs.Attaching.{LooksAtHead, attached_in, is_slot};
 ghost use Rattle.linked_queue.specs.Leaving.{Leaves};
 ghost use Rattle.linked_queue.specs.Queues.{IsQueueOf};
 
 use crate::queue::LinkedQueue;
-use acquire_retire::{Domain, EventPlace, Outcome, Seat, SlotId};
 use part_calls::look;
 use queue_protocol::{AttachSeat, HasQueue, QueueLaw};
+use slot_store::{Domain, EventPlace, Outcome, Seat, SlotId};
 
 impl LinkedQueue {
     /// Whether the queue is laid, by one look at the head cell: true exactly where that found a slot, and the seat is

@@ -1,16 +1,16 @@
 //! A node that carries an item.
 ghost use Rattle.std.specs.Prelude.{◌≡◌, ◌<◌, Some};
-ghost use Rattle.plain_state.specs.declared.act.EventPlace.TheVariants.{Field};
-ghost use Rattle.plain_state.specs.Lists.{times};
-ghost use Rattle.core_events.specs.Steps.{HasRoom};
-ghost use Rattle.core_events.specs.Views.{without};
-ghost use Rattle.control_word.specs.Resting.{IsAtRest};
-ghost use Rattle.retiring_stores.specs.Exchanging.{Stores};
-ghost use Rattle.queue_law.specs.Lessons.{TellsNothing};
-ghost use Rattle.queue_law.specs.Nodes.{carry_next};
-ghost use Rattle.queue_law.specs.Pushes.{carried_item};
+ghost use Rattle.queue_protocol.specs.plain_state.declared.act.EventPlace.TheVariants.{Field};
+ghost use Rattle.queue_protocol.specs.plain_state.Lists.{times};
+ghost use Rattle.slot_store.specs.core_events.Steps.{HasRoom};
+ghost use Rattle.slot_store.specs.core_events.Views.{without};
+ghost use Rattle.slot_store.specs.control_word.Resting.{IsAtRest};
+ghost use Rattle.slot_store.specs.retiring_stores.Exchanging.{Stores};
+ghost use Rattle.queue_protocol.specs.queue_law.Lessons.{TellsNothing};
+ghost use Rattle.queue_protocol.specs.queue_law.Nodes.{carry_next};
+ghost use Rattle.queue_protocol.specs.queue_law.Pushes.{carried_item};
 ghost use Rattle.part_calls.specs.Parts.{HasBeside, as_part, seen_by};
-ghost use Rattle.queue_law.specs.Views.{first_view};
+ghost use Rattle.queue_protocol.specs.queue_law.Views.{first_view};
 ghost use Rattle.linked_queue.specs.Leaving.{Leaves};
 ghost use Rattle.linked_queue.specs.Nodes.{HasNode};
 ghost use Rattle.linked_queue.specs.Pops.{item_in};
@@ -19,10 +19,9 @@ ghost use Rattle.linked_queue.specs.Queues.{deeds_in};
 ghost use Rattle.linked_queue.specs.UnlessRipe.{next_unless};
 
 use crate::unless_ripe::UnlessRipe;
-use acquire_retire::{Domain, Seat, SlotId};
-use counted_handles::Strong;
 use part_calls::{Place, store};
 use queue_protocol::{CarryItem, HasQueue, QueueLaw};
+use slot_store::{Domain, Seat, SlotId, Strong};
 
 /// Puts a reference to the item into field 1 of a node of the seat's own.
 pub(crate) fn carry<S, P: HasQueue<S>>(

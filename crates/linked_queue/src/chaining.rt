@@ -1,11 +1,11 @@
 //! The deciding exchange of a push: a seat finds the last node, and links its own behind it.
 ghost use Rattle.std.specs.Prelude.{◌≡◌, ◌<◌, IfErr, IfOk, OnErr};
-ghost use Rattle.core_events.specs.Steps.{HasRoom};
-ghost use Rattle.control_word.specs.Resting.{IsAtRest, IsSpent};
-ghost use Rattle.counted_handles.specs.declared.refusal.LoadError.TheVariants as unloaded;
-ghost use Rattle.queue_law.specs.declared.view.Form.TheVariants.{Linked};
-ghost use Rattle.queue_law.specs.Pushes.{carried_item};
-ghost use Rattle.queue_law.specs.Views.{first_view};
+ghost use Rattle.slot_store.specs.core_events.Steps.{HasRoom};
+ghost use Rattle.slot_store.specs.control_word.Resting.{IsAtRest, IsSpent};
+ghost use Rattle.slot_store.specs.counted_handles.declared.refusal.LoadError.TheVariants as unloaded;
+ghost use Rattle.queue_protocol.specs.queue_law.declared.view.Form.TheVariants.{Linked};
+ghost use Rattle.queue_protocol.specs.queue_law.Pushes.{carried_item};
+ghost use Rattle.queue_protocol.specs.queue_law.Views.{first_view};
 ghost use Rattle.part_calls.specs.Parts.{HasBeside, as_part, seen_by};
 ghost use Rattle.linked_queue.specs.Leaving.{Leaves, handle_by, with_found};
 ghost use Rattle.linked_queue.specs.Pushes.{HasLoad, IsWhyUnlinked, LinksLast, SeesBehind, pushed_too};
@@ -14,11 +14,9 @@ ghost use Rattle.linked_queue.specs.Queues.{IsAttached, beside_eyes, deeds_in};
 
 use crate::finding::find_last;
 use crate::linking::link;
-use acquire_retire::{Domain, Seat, SlotId};
-use atomic_shared::LoadError;
-use counted_handles::Strong;
-use part_calls::drop_strong;
+use part_calls::{LoadError, drop_strong};
 use queue_protocol::{HasQueue, QueueLaw};
+use slot_store::{Domain, Seat, SlotId, Strong};
 
 /// Links a node that carries its item behind the last one, to which it answers a reference. Where it is refused, the
 /// node is the seat's own still.

@@ -1,14 +1,13 @@
 //! The deeds of the queue's loads: those of the protocol for a load of a cell, which tell besides that the cell of an
 //! attached seat isn't null; and that of a load of an item, which notes it also where there is none.
 ghost use Rattle.std.specs.Prelude.{true, false};
-ghost use Rattle.acquire_retire.specs.Calls.{same_view};
-ghost use Rattle.queue_law.specs.Chain.{ends};
-ghost use Rattle.queue_law.specs.Lessons.{ItemReady, LearnReady, TellsNothing, learn_next};
+ghost use Rattle.slot_store.specs.acquire_retire.Calls.{same_view};
+ghost use Rattle.queue_protocol.specs.queue_law.Chain.{ends};
+ghost use Rattle.queue_protocol.specs.queue_law.Lessons.{ItemReady, LearnReady, TellsNothing, learn_next};
 ghost use Rattle.linked_queue.specs.Cells.{HeadTells, TailTells, head_keeps, tail_keeps};
 ghost use Rattle.linked_queue.specs.Items.{GoneReady, GoneTells, gone_keeps, see_item_keeps, see_item_next};
 
-use plain_protocol::Deed;
-use queue_protocol::QueueLaw;
+use queue_protocol::{Deed, QueueLaw};
 
 /// What the head cell held, if the seat then holds it. It is a node, and where the seat is attached there is one.
 #[derive(Clone, Copy, Debug, Drop)]

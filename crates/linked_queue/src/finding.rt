@@ -3,16 +3,16 @@
 //! The seat holds what it walks over: a reference to the node in the tail cell, then one to the node behind it. It
 //! gives up the one that isn't the last node.
 ghost use Rattle.std.specs.Prelude.{◌≡◌, ◌≢◌, ◌<◌, ◌≤◌, ◌+◌, false, IfErr, IfOk, IfSome, None};
-ghost use Rattle.plain_state.specs.declared.act.EventPlace.TheVariants.{Cell, Field};
-ghost use Rattle.core_events.specs.Steps.{HasRoom};
-ghost use Rattle.atomic_shared.specs.Places.{named};
-ghost use Rattle.control_word.specs.Resting.{IsAtRest, IsSpent};
-ghost use Rattle.counted_handles.specs.declared.refusal.LoadError.TheVariants as unloaded;
-ghost use Rattle.protected_loads.specs.References.{Loads};
-ghost use Rattle.queue_law.specs.declared.view.Form.TheVariants.{Linked};
-ghost use Rattle.queue_law.specs.Lessons.{NextTells, learn_next, next_next};
+ghost use Rattle.queue_protocol.specs.plain_state.declared.act.EventPlace.TheVariants.{Cell, Field};
+ghost use Rattle.slot_store.specs.core_events.Steps.{HasRoom};
+ghost use Rattle.part_calls.specs.atomic_shared.Places.{named};
+ghost use Rattle.slot_store.specs.control_word.Resting.{IsAtRest, IsSpent};
+ghost use Rattle.slot_store.specs.counted_handles.declared.refusal.LoadError.TheVariants as unloaded;
+ghost use Rattle.part_calls.specs.protected_loads.References.{Loads};
+ghost use Rattle.queue_protocol.specs.queue_law.declared.view.Form.TheVariants.{Linked};
+ghost use Rattle.queue_protocol.specs.queue_law.Lessons.{NextTells, learn_next, next_next};
 ghost use Rattle.part_calls.specs.Parts.{HasBeside, as_part, seen_by};
-ghost use Rattle.queue_law.specs.Views.{first_view};
+ghost use Rattle.queue_protocol.specs.queue_law.Views.{first_view};
 ghost use Rattle.linked_queue.specs.Cells.{TailTells};
 ghost use Rattle.linked_queue.specs.Leaving.{Leaves, found_by, handle_by, with_found};
 ghost use Rattle.linked_queue.specs.Pushes.{FindsBehind, FindsEnd, IsWhyUnlinked, SeesBehind, SeesTail};
@@ -22,10 +22,9 @@ ghost use Rattle.linked_queue.specs.Seeing.{IsWhyUnread};
 
 use crate::ahead::help_on;
 use crate::deeds::SeeTail;
-use acquire_retire::{Domain, Seat, SlotId};
-use counted_handles::Strong;
 use part_calls::{LoadError, Place, drop_strong, try_load};
 use queue_protocol::{HasQueue, LearnNext, QueueLaw};
+use slot_store::{Domain, Seat, SlotId, Strong};
 
 /// A reference to the last node that is linked, as far as the seat can tell: the one in the tail cell or, where a node
 /// follows that one, this node, to which the seat advances the tail cell.

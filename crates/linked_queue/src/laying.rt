@@ -1,28 +1,27 @@
 //! How a queue is laid.
 ghost use Rattle.std.specs.Prelude.{◌≡◌, ◌≤◌, ◌<◌, ◌+◌, ◌∷◌, ◌++◌, [], IfErr, IfOk, OnErr, Some};
-ghost use Rattle.plain_state.specs.declared.act.EventPlace.TheVariants.{Cell};
-ghost use Rattle.plain_state.specs.Lists.{times};
-ghost use Rattle.plain_state.specs.State.{no_payload};
-ghost use Rattle.core_events.specs.Steps.{HasRoom};
-ghost use Rattle.core_events.specs.Views.{without};
-ghost use Rattle.control_word.specs.Resting.{IsAtRest, IsSpent};
+ghost use Rattle.queue_protocol.specs.plain_state.declared.act.EventPlace.TheVariants.{Cell};
+ghost use Rattle.queue_protocol.specs.plain_state.Lists.{times};
+ghost use Rattle.queue_protocol.specs.plain_state.State.{no_payload};
+ghost use Rattle.slot_store.specs.core_events.Steps.{HasRoom};
+ghost use Rattle.slot_store.specs.core_events.Views.{without};
+ghost use Rattle.slot_store.specs.control_word.Resting.{IsAtRest, IsSpent};
 ghost use Rattle.slot_store.specs.declared.making.MakeError.TheVariants as refused;
-ghost use Rattle.retiring_stores.specs.Exchanging.{Stores};
+ghost use Rattle.slot_store.specs.retiring_stores.Exchanging.{Stores};
 ghost use Rattle.slot_store.specs.Calls.{Makes};
-ghost use Rattle.queue_law.specs.Lessons.{TellsNothing};
-ghost use Rattle.queue_law.specs.Nodes.{make_next};
-ghost use Rattle.queue_law.specs.Opening.{lay_head_next, lay_tail_next};
+ghost use Rattle.queue_protocol.specs.queue_law.Lessons.{TellsNothing};
+ghost use Rattle.queue_protocol.specs.queue_law.Nodes.{make_next};
+ghost use Rattle.queue_protocol.specs.queue_law.Opening.{lay_head_next, lay_tail_next};
 ghost use Rattle.part_calls.specs.Parts.{HasBeside, StaysBeside, as_part, seen_by};
-ghost use Rattle.queue_law.specs.Views.{first_view};
+ghost use Rattle.queue_protocol.specs.queue_law.Views.{first_view};
 ghost use Rattle.linked_queue.specs.Leaving.{Leaves};
 ghost use Rattle.linked_queue.specs.Nodes.{HasNode, IsHalfLaid, IsWhyUnlaid, IsWhyUnmade, Lays, half_laid_in, laid_in};
 ghost use Rattle.linked_queue.specs.Queues.{CanLay, IsAttached, IsQueueOf, deeds_in};
 
 use crate::queue::LinkedQueue;
-use acquire_retire::{Domain, Seat};
-use counted_handles::Strong;
 use part_calls::{MakeError, Place, copy_strong, drop_strong, make, store};
 use queue_protocol::{HasQueue, LayHead, LayTail, MakeNode, QueueLaw};
+use slot_store::{Domain, Seat, Strong};
 
 impl LinkedQueue {
     /// Lays a queue over two cells: makes the dummy, and puts it into the tail cell and then into the head cell. It is

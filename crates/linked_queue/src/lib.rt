@@ -36,17 +36,18 @@ mod reading;
 mod seeing;
 mod shutting;
 mod taking;
-#[cfg(test)]
-mod tests;
-#[cfg(test)]
-mod tests_pair;
 mod unless_ripe;
 mod waiting;
 mod walking;
 
-pub use counted_handles::{Spent, Strong};
 pub use deeds::{SeeHead, SeeTail};
+pub use part_calls::Spent;
 pub use popping::{pop_at, pop_with_at};
 pub use queue::{LinkedQueue, PopError, PushError, PushRefused};
-pub use slot_store::MakeError;
+pub use queue_protocol::{
+    AttachSeat, CarryItem, ExchangeTail, FindEnded, FindSet, Form, HasQueue, HelpLink, LandPush,
+    LayHead, LayTail, LearnBefore, LearnItem, LearnTail, LinkBack, MakeNode, NodeKind, QueueLaw,
+    ShutHead, ShutTail,
+};
+pub use slot_store::{MakeError, Strong};
 pub use unless_ripe::UnlessRipe;

@@ -1,23 +1,21 @@
 //! The exchanges at the end of the queue: a seat links a node behind the last one, and advances the tail cell.
 ghost use Rattle.std.specs.Prelude.{◌≡◌, ◌<◌, ◌≤◌, ◌+◌, IfErr, IfOk, OnErr, None};
-ghost use Rattle.core_events.specs.Steps.{HasRoom};
-ghost use Rattle.core_events.specs.Views.{without};
-ghost use Rattle.control_word.specs.Resting.{IsAtRest, IsSpent};
-ghost use Rattle.counted_handles.specs.declared.refusal.LoadError.TheVariants as unloaded;
-ghost use Rattle.queue_law.specs.declared.view.Form.TheVariants.{Linked};
-ghost use Rattle.queue_law.specs.Pushes.{carried_item, linked_view};
+ghost use Rattle.slot_store.specs.core_events.Steps.{HasRoom};
+ghost use Rattle.slot_store.specs.core_events.Views.{without};
+ghost use Rattle.slot_store.specs.control_word.Resting.{IsAtRest, IsSpent};
+ghost use Rattle.slot_store.specs.counted_handles.declared.refusal.LoadError.TheVariants as unloaded;
+ghost use Rattle.queue_protocol.specs.queue_law.declared.view.Form.TheVariants.{Linked};
+ghost use Rattle.queue_protocol.specs.queue_law.Pushes.{carried_item, linked_view};
 ghost use Rattle.part_calls.specs.Parts.{HasBeside, as_part, seen_by};
-ghost use Rattle.queue_law.specs.Views.{first_view};
+ghost use Rattle.queue_protocol.specs.queue_law.Views.{first_view};
 ghost use Rattle.linked_queue.specs.Leaving.{Leaves};
 ghost use Rattle.linked_queue.specs.Pushes.{Advances, HasLoad, Helps, IsWhyUnlinked, Links, SeesBehind, SeesTail, advanced_in};
 ghost use Rattle.linked_queue.specs.PushLosses.{LosesLink};
 ghost use Rattle.linked_queue.specs.Queues.{IsAttached, beside_eyes};
 
-use acquire_retire::{Domain, Seat, SlotId};
-use core_functions::held_as;
-use counted_handles::Strong;
 use part_calls::{LoadError, Place, copy_strong, drop_strong, try_replace};
 use queue_protocol::{AdvanceTail, HasQueue, LinkNode, QueueLaw};
+use slot_store::{Domain, Seat, SlotId, Strong, held_as};
 
 /// Advances the tail cell to a node, with a reference of its own.
 pub(crate) fn help<S, P: HasQueue<S>>(

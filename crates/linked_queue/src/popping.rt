@@ -1,12 +1,12 @@
 //! A pop, in one try. The head of a queue is the same in both of its forms, and so is a pop.
 ghost use Rattle.std.specs.Prelude.{◌≡◌, ◌<◌, ◌+◌, IfErr, IfOk, IfSome, None, Some};
-ghost use Rattle.plain_state.specs.Lists.{times};
-ghost use Rattle.core_events.specs.Steps.{HasRoom};
-ghost use Rattle.atomic_shared.specs.Places.{named};
-ghost use Rattle.control_word.specs.Resting.{IsAtRest, IsSpent};
+ghost use Rattle.queue_protocol.specs.plain_state.Lists.{times};
+ghost use Rattle.slot_store.specs.core_events.Steps.{HasRoom};
+ghost use Rattle.part_calls.specs.atomic_shared.Places.{named};
+ghost use Rattle.slot_store.specs.control_word.Resting.{IsAtRest, IsSpent};
 ghost use Rattle.linked_queue.specs.declared.queue.PopError.TheVariants as unpopped;
 ghost use Rattle.part_calls.specs.Parts.{HasBeside, StaysBeside, as_part, seen_by};
-ghost use Rattle.queue_law.specs.Views.{first_view};
+ghost use Rattle.queue_protocol.specs.queue_law.Views.{first_view};
 ghost use Rattle.linked_queue.specs.Leaving.{found_by};
 ghost use Rattle.linked_queue.specs.Losses.{IsWhyUnpopped};
 ghost use Rattle.linked_queue.specs.Pops.{OwnsBoth, Pops, PopsAtHead, PopsAtHeadWith, PopsWith, adds_of, both_by, named_both};
@@ -16,10 +16,9 @@ use crate::queue::{LinkedQueue, PopError};
 use crate::seeing::see_head;
 use crate::taking::refusal_of;
 use crate::walking::pop_behind;
-use acquire_retire::{Domain, Seat};
-use counted_handles::Strong;
 use part_calls::drop_strong;
 use queue_protocol::{HasQueue, QueueLaw};
+use slot_store::{Domain, Seat, Strong};
 
 impl LinkedQueue {
     /// Takes the first item off the queue, in one try, and answers a reference to it. `None` only where nothing was

@@ -5,16 +5,16 @@
 //! holds the last node and its own by references that it gives up in the end.
 
 ghost use Rattle.std.specs.Prelude.{◌≡◌, ◌<◌, ◌≤◌, ◌+◌, IfErr, IfOk, OnErr, Some};
-ghost use Rattle.plain_state.specs.Lists.{times};
-ghost use Rattle.core_events.specs.Steps.{HasRoom};
-ghost use Rattle.core_events.specs.Views.{without};
-ghost use Rattle.control_word.specs.Resting.{IsAtRest, IsSpent};
-ghost use Rattle.counted_handles.specs.declared.refusal.LoadError.TheVariants as unloaded;
+ghost use Rattle.queue_protocol.specs.plain_state.Lists.{times};
+ghost use Rattle.slot_store.specs.core_events.Steps.{HasRoom};
+ghost use Rattle.slot_store.specs.core_events.Views.{without};
+ghost use Rattle.slot_store.specs.control_word.Resting.{IsAtRest, IsSpent};
+ghost use Rattle.slot_store.specs.counted_handles.declared.refusal.LoadError.TheVariants as unloaded;
 ghost use Rattle.slot_store.specs.declared.making.MakeError.TheVariants as refused;
-ghost use Rattle.queue_law.specs.declared.view.Form.TheVariants.{Linked};
-ghost use Rattle.queue_law.specs.Pushes.{carried_item};
+ghost use Rattle.queue_protocol.specs.queue_law.declared.view.Form.TheVariants.{Linked};
+ghost use Rattle.queue_protocol.specs.queue_law.Pushes.{carried_item};
 ghost use Rattle.part_calls.specs.Parts.{HasBeside, StaysBeside, as_part, seen_by};
-ghost use Rattle.queue_law.specs.Views.{first_view};
+ghost use Rattle.queue_protocol.specs.queue_law.Views.{first_view};
 ghost use Rattle.linked_queue.specs.Leaving.{Leaves, handle_by, with_found};
 ghost use Rattle.linked_queue.specs.Pops.{item_in};
 ghost use Rattle.linked_queue.specs.Pushes.{HasLoad, LoadsNode, PushesBy, PushesCopy, PushesNode, IsWhyRefused, IsWhyUnlinked, Pushes, PushesNothing, UsesNone, back_of, cause_of, pushed_too};
@@ -27,12 +27,9 @@ use crate::chaining::link_last;
 use crate::laying::make_node;
 use crate::linking::advance;
 use crate::queue::{LinkedQueue, PushError, PushRefused};
-use acquire_retire::{Domain, Seat};
-use atomic_shared::LoadError;
-use counted_handles::Strong;
-use part_calls::{copy_strong, drop_strong};
+use part_calls::{LoadError, copy_strong, drop_strong};
 use queue_protocol::{HasQueue, QueueLaw};
-use slot_store::MakeError;
+use slot_store::{Domain, MakeError, Seat, Strong};
 
 impl LinkedQueue {
     /// Appends an item to the queue, in one try, and gives the seat's reference to it. `Again` only where a place of

@@ -1,13 +1,13 @@
 //! A push that tries again until no other seat is quicker. It keeps its one node through its tries.
 ghost use Rattle.std.specs.Prelude.{◌≡◌, ◌<◌, ◌≤◌, ◌+◌, IfErr, IfOk, OnErr, Some};
-ghost use Rattle.plain_state.specs.Lists.{times};
-ghost use Rattle.core_events.specs.Steps.{HasRoom};
-ghost use Rattle.core_events.specs.Views.{without};
-ghost use Rattle.control_word.specs.Resting.{IsAtRest, IsSpent};
+ghost use Rattle.queue_protocol.specs.plain_state.Lists.{times};
+ghost use Rattle.slot_store.specs.core_events.Steps.{HasRoom};
+ghost use Rattle.slot_store.specs.core_events.Views.{without};
+ghost use Rattle.slot_store.specs.control_word.Resting.{IsAtRest, IsSpent};
 ghost use Rattle.slot_store.specs.declared.making.MakeError.TheVariants as unmade;
-ghost use Rattle.queue_law.specs.declared.view.Form.TheVariants.{Linked};
-ghost use Rattle.queue_law.specs.Pushes.{carried_item};
-ghost use Rattle.queue_law.specs.Views.{first_view};
+ghost use Rattle.queue_protocol.specs.queue_law.declared.view.Form.TheVariants.{Linked};
+ghost use Rattle.queue_protocol.specs.queue_law.Pushes.{carried_item};
+ghost use Rattle.queue_protocol.specs.queue_law.Views.{first_view};
 ghost use Rattle.part_calls.specs.Parts.{HasBeside, StaysBeside, as_part, seen_by};
 ghost use Rattle.linked_queue.specs.Leaving.{Leaves, handle_by, with_found};
 ghost use Rattle.linked_queue.specs.Pops.{item_in};
@@ -19,13 +19,10 @@ use crate::chaining::link_last;
 use crate::linking::advance;
 use crate::pushing::load_node;
 use crate::queue::{LinkedQueue, PushRefused};
-use acquire_retire::{Domain, Seat, SlotId};
-use atomic_shared::LoadError;
-use counted_handles::{Spent, Strong};
 use crossbeam_utils::Backoff;
-use part_calls::drop_strong;
+use part_calls::{LoadError, Spent, drop_strong};
 use queue_protocol::{HasQueue, QueueLaw};
-use slot_store::MakeError;
+use slot_store::{Domain, MakeError, Seat, SlotId, Strong};
 use std::sync::Wait;
 
 impl LinkedQueue {

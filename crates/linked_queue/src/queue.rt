@@ -1,6 +1,5 @@
 //! A queue as a value, and why a push or a pop is refused.
-use counted_handles::Strong;
-use slot_store::MakeError;
+use slot_store::{MakeError, Strong};
 
 /// A linked queue of a domain, by its two strong cells. It gives no right by itself: a call asks that the domain's law
 /// is that of a linked queue over these cells.

@@ -1,22 +1,20 @@
 //! What a field of an item holds, which a pop may read before it takes the item.
 ghost use Rattle.std.specs.Prelude.{◌≡◌, ◌<◌, ◌≤◌, ◌+◌, IfErr, IfOk, IfSome, Some};
-ghost use Rattle.plain_state.specs.Lists.{times};
-ghost use Rattle.core_events.specs.Steps.{HasRoom};
-ghost use Rattle.atomic_shared.specs.Places.{named};
-ghost use Rattle.control_word.specs.Resting.{IsAtRest, IsSpent};
-ghost use Rattle.counted_handles.specs.declared.refusal.LoadError.TheVariants as unloaded;
+ghost use Rattle.queue_protocol.specs.plain_state.Lists.{times};
+ghost use Rattle.slot_store.specs.core_events.Steps.{HasRoom};
+ghost use Rattle.part_calls.specs.atomic_shared.Places.{named};
+ghost use Rattle.slot_store.specs.control_word.Resting.{IsAtRest, IsSpent};
+ghost use Rattle.slot_store.specs.counted_handles.declared.refusal.LoadError.TheVariants as unloaded;
 ghost use Rattle.part_calls.specs.Parts.{HasBeside, as_part, seen_by};
-ghost use Rattle.queue_law.specs.Views.{first_view};
+ghost use Rattle.queue_protocol.specs.queue_law.Views.{first_view};
 ghost use Rattle.linked_queue.specs.Leaving.{Leaves, found_by, with_found};
 ghost use Rattle.linked_queue.specs.Losses.{MissesContent};
 ghost use Rattle.linked_queue.specs.Pops.{Reads, adds_of};
 ghost use Rattle.linked_queue.specs.Seeing.{IsWhyUnread};
 
-use acquire_retire::{Domain, Seat, SlotId};
-use counted_handles::Strong;
 use part_calls::{LoadError, Place, try_load};
-use plain_protocol::Still;
-use queue_protocol::{HasQueue, QueueLaw};
+use queue_protocol::{HasQueue, QueueLaw, Still};
+use slot_store::{Domain, Seat, SlotId, Strong};
 
 /// A reference to what this field of an item holds, where a field is named.
 pub(crate) fn see_content<S, P: HasQueue<S>>(

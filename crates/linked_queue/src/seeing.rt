@@ -1,26 +1,24 @@
 //! What a seat sees of a queue: the node in the head cell, the next one, and that one's item. Each is a load with the
 //! deed that notes it.
 ghost use Rattle.std.specs.Prelude.{◌≡◌, ◌≢◌, ◌<◌, ◌≤◌, ◌+◌, true, IfErr, IfOk, IfSome, None};
-ghost use Rattle.plain_state.specs.declared.act.EventPlace.TheVariants.{Cell, Field};
-ghost use Rattle.core_events.specs.Steps.{HasRoom};
-ghost use Rattle.atomic_shared.specs.Places.{named};
-ghost use Rattle.control_word.specs.Resting.{IsAtRest, IsSpent};
-ghost use Rattle.counted_handles.specs.declared.refusal.LoadError.TheVariants as unloaded;
-ghost use Rattle.protected_loads.specs.References.{Loads, Refers};
-ghost use Rattle.queue_law.specs.Lessons.{NextTells, learn_next, next_next};
+ghost use Rattle.queue_protocol.specs.plain_state.declared.act.EventPlace.TheVariants.{Cell, Field};
+ghost use Rattle.slot_store.specs.core_events.Steps.{HasRoom};
+ghost use Rattle.part_calls.specs.atomic_shared.Places.{named};
+ghost use Rattle.slot_store.specs.control_word.Resting.{IsAtRest, IsSpent};
+ghost use Rattle.slot_store.specs.counted_handles.declared.refusal.LoadError.TheVariants as unloaded;
+ghost use Rattle.part_calls.specs.protected_loads.References.{Loads, Refers};
+ghost use Rattle.queue_protocol.specs.queue_law.Lessons.{NextTells, learn_next, next_next};
 ghost use Rattle.part_calls.specs.Parts.{HasBeside, as_part, seen_by};
-ghost use Rattle.queue_law.specs.Views.{first_view};
+ghost use Rattle.queue_protocol.specs.queue_law.Views.{first_view};
 ghost use Rattle.linked_queue.specs.Cells.{HeadTells};
 ghost use Rattle.linked_queue.specs.Leaving.{Leaves, found_by, handle_by, with_found};
 ghost use Rattle.linked_queue.specs.Queues.{IsAttached, beside_eyes, ends_of};
 ghost use Rattle.linked_queue.specs.Seeing.{FindsLast, IsWhyUnread, LoadsItem, LooksAgain, MissesHead, MissesItem, MissesNext, SeesHead, SeesItem, SeesNext, SeesNone};
 
 use crate::deeds::{SeeGone, SeeHead, SeeItem};
-use acquire_retire::{Domain, EventPlace, Outcome, Seat, SlotId};
-use core_functions::held_as;
-use counted_handles::Strong;
 use part_calls::{LoadError, Place, look, try_load};
 use queue_protocol::{HasQueue, LearnNext, QueueLaw};
+use slot_store::{Domain, EventPlace, Outcome, Seat, SlotId, Strong, held_as};
 
 /// A reference to the node that the head cell holds. There is one, since the seat is attached.
 pub(crate) fn see_head<S, P: HasQueue<S>>(

@@ -1,16 +1,16 @@
 //! The exchange of the head cell, which decides a pop, and the step that follows it.
 ghost use Rattle.std.specs.Prelude.{◌≡◌, ◌<◌, ◌+◌, IfErr, IfOk, IfSome, OnErr, None};
-ghost use Rattle.plain_state.specs.declared.act.EventPlace.TheVariants.{Field};
-ghost use Rattle.plain_state.specs.Lists.{times};
-ghost use Rattle.core_events.specs.Steps.{HasRoom};
-ghost use Rattle.atomic_shared.specs.Places.{named};
-ghost use Rattle.control_word.specs.Resting.{IsAtRest, IsSpent};
+ghost use Rattle.queue_protocol.specs.plain_state.declared.act.EventPlace.TheVariants.{Field};
+ghost use Rattle.queue_protocol.specs.plain_state.Lists.{times};
+ghost use Rattle.slot_store.specs.core_events.Steps.{HasRoom};
+ghost use Rattle.part_calls.specs.atomic_shared.Places.{named};
+ghost use Rattle.slot_store.specs.control_word.Resting.{IsAtRest, IsSpent};
 ghost use Rattle.linked_queue.specs.declared.queue.PopError.TheVariants as unpopped;
-ghost use Rattle.retiring_stores.specs.Exchanging.{Stores};
-ghost use Rattle.queue_law.specs.Lessons.{TellsNothing};
-ghost use Rattle.queue_law.specs.Pops.{empty_next};
+ghost use Rattle.slot_store.specs.retiring_stores.Exchanging.{Stores};
+ghost use Rattle.queue_protocol.specs.queue_law.Lessons.{TellsNothing};
+ghost use Rattle.queue_protocol.specs.queue_law.Pops.{empty_next};
 ghost use Rattle.part_calls.specs.Parts.{HasBeside, as_part, seen_by};
-ghost use Rattle.queue_law.specs.Views.{first_view};
+ghost use Rattle.queue_protocol.specs.queue_law.Views.{first_view};
 ghost use Rattle.linked_queue.specs.Leaving.{Leaves, found_by, with_found, without_found};
 ghost use Rattle.linked_queue.specs.Losses.{DropsFound, LosesHead, LosesWith};
 ghost use Rattle.linked_queue.specs.Pops.{HasEmptied, IsWhyLost, Takes, TakesWith, adds_of, item_in, popped_too, unpopped_by};
@@ -21,11 +21,9 @@ ghost use Rattle.linked_queue.specs.UnlessRipe.{next_unless};
 use crate::queue::PopError;
 use crate::reading::see_content;
 use crate::unless_ripe::UnlessRipe;
-use acquire_retire::{Domain, Seat, SlotId};
-use core_functions::held_as;
-use counted_handles::Strong;
 use part_calls::{LoadError, Place, copy_strong, drop_strong, store, try_replace};
 use queue_protocol::{EmptyDummy, HasQueue, QueueLaw, TakeItem};
+use slot_store::{Domain, Seat, SlotId, Strong, held_as};
 
 /// What a seat saw at the head of a queue: the slots of a node that the head cell held, of the next one, and of that
 /// one's item.

@@ -1,7 +1,7 @@
 //! A deed of a store into a field, where the seat's own view can't tell that the slot isn't one that it is to destroy.
 ghost use Rattle.linked_queue.specs.UnlessRipe.{TellsNothing, is_clear, ready_unless, next_unless, unless_keeps};
 
-use plain_protocol::{Deed, Protocol};
+use queue_protocol::{Deed, Protocol};
 
 /// A deed, at a store into a field. A store into a field of a slot that the seat is to destroy would be a calm step,
 /// and leave the view as it is; a seat that owns the slot strongly never is to destroy it.

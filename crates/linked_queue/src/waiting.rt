@@ -1,9 +1,9 @@
 //! Calls that try again until no other seat is quicker.
 ghost use Rattle.std.specs.Prelude.{◌≡◌, ◌<◌, IfOk, IfSome, OnErr, None};
-ghost use Rattle.plain_state.specs.Lists.{times};
-ghost use Rattle.core_events.specs.Steps.{HasRoom};
-ghost use Rattle.atomic_shared.specs.Places.{named};
-ghost use Rattle.control_word.specs.Resting.{IsAtRest, IsSpent};
+ghost use Rattle.queue_protocol.specs.plain_state.Lists.{times};
+ghost use Rattle.slot_store.specs.core_events.Steps.{HasRoom};
+ghost use Rattle.part_calls.specs.atomic_shared.Places.{named};
+ghost use Rattle.slot_store.specs.control_word.Resting.{IsAtRest, IsSpent};
 ghost use Rattle.part_calls.specs.Parts.{StaysBeside, as_part, seen_by};
 ghost use Rattle.linked_queue.specs.Attaching.{attached_in};
 ghost use Rattle.linked_queue.specs.Leaving.{Leaves, found_by};
@@ -13,10 +13,10 @@ ghost use Rattle.linked_queue.specs.Queues.{IsAttached, IsQueueOf};
 ghost use Rattle.linked_queue.specs.Waits.{AttachesAtLast, IsWhyShort, PopsAtLast};
 
 use crate::queue::{LinkedQueue, PopError};
-use acquire_retire::{Domain, Seat};
-use counted_handles::{Spent, Strong};
 use crossbeam_utils::Backoff;
+use part_calls::Spent;
 use queue_protocol::HasQueue;
+use slot_store::{Domain, Seat, Strong};
 use std::sync::Wait;
 
 impl LinkedQueue {

@@ -3,12 +3,12 @@
 //! The seat holds what it walks over: a reference to the node in the head cell, then one to the next node, then one to
 //! that one's item. It gives them up in the opposite order, but for the item.
 ghost use Rattle.std.specs.Prelude.{◌≡◌, ◌<◌, ◌+◌, IfErr, IfOk, IfSome};
-ghost use Rattle.core_events.specs.Steps.{HasRoom};
-ghost use Rattle.atomic_shared.specs.Places.{named};
-ghost use Rattle.control_word.specs.Resting.{IsAtRest, IsSpent};
+ghost use Rattle.slot_store.specs.core_events.Steps.{HasRoom};
+ghost use Rattle.part_calls.specs.atomic_shared.Places.{named};
+ghost use Rattle.slot_store.specs.control_word.Resting.{IsAtRest, IsSpent};
 ghost use Rattle.linked_queue.specs.declared.queue.PopError.TheVariants as unpopped;
 ghost use Rattle.part_calls.specs.Parts.{HasBeside, as_part, seen_by};
-ghost use Rattle.queue_law.specs.Views.{first_view};
+ghost use Rattle.queue_protocol.specs.queue_law.Views.{first_view};
 ghost use Rattle.linked_queue.specs.Losses.{LosesBehind, LosesNode};
 ghost use Rattle.linked_queue.specs.Pops.{IsWhyLost, PopsBehind, PopsWith, TakesItem, adds_of, both_by, named_both, pair_by};
 ghost use Rattle.linked_queue.specs.Queues.{IsAttached};
@@ -17,11 +17,9 @@ ghost use Rattle.linked_queue.specs.Seeing.{SeesHead, SeesNext};
 use crate::queue::PopError;
 use crate::seeing::{see_gone, see_item, see_next};
 use crate::taking::{Sight, refusal_of, take_with};
-use acquire_retire::{Domain, Seat, SlotId};
-use core_functions::held_as;
-use counted_handles::Strong;
 use part_calls::drop_strong;
 use queue_protocol::{HasQueue, QueueLaw};
+use slot_store::{Domain, Seat, SlotId, Strong, held_as};
 
 /// A pop by a seat that has seen the head's node. It reads this field of the item, where one is named.
 pub(crate) fn pop_behind<S, P: HasQueue<S>>(

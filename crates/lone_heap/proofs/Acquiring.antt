@@ -1,32 +1,32 @@
 -- What a seat that is alone finds in a place, and what it is under then.
 use Rattle.std.proofs.Common.{◌≡◌, ℕ, ◌<◌, ◌+◌, List, [], ◌∷◌, length, refl, ap, sym, ◌∙◌, subst, arith}
 use Rattle.std.specs.Prelude.{Option, Some, None, Result, Ok, IfNone, IfSome, slice_set}
-use Rattle.plain_state.specs.declared.act.EventPlace.{EventPlace}
-use Rattle.plain_state.specs.declared.act.PlainAct.{PlainAct}
-use Rattle.plain_state.specs.declared.act.PlainAct.TheVariants as plain
-use Rattle.plain_state.specs.declared.slot.Kind.{Kind}
-use Rattle.plain_state.specs.declared.slot.Kind.TheVariants.{Strong, Disposal}
-use Rattle.plain_state.specs.declared.slot.SlotId.{SlotId}
-use Rattle.plain_state.specs.Lists.{Entry, Gains, entry_times}
-use Rattle.plain_state.proofs.Kit.{entry_in, entry_loses}
-use Rattle.plain_state.specs.Places.{content, place_kind}
-use Rattle.plain_state.specs.State.{Plain, PlainSeat, seat_at, with_seat}
-use Rattle.plain_state.specs.Steps.{Does, word_of}
+use Rattle.protected_loads.specs.plain_state.declared.act.EventPlace.{EventPlace}
+use Rattle.protected_loads.specs.plain_state.declared.act.PlainAct.{PlainAct}
+use Rattle.protected_loads.specs.plain_state.declared.act.PlainAct.TheVariants as plain
+use Rattle.protected_loads.specs.plain_state.declared.slot.Kind.{Kind}
+use Rattle.protected_loads.specs.plain_state.declared.slot.Kind.TheVariants.{Strong, Disposal}
+use Rattle.protected_loads.specs.plain_state.declared.slot.SlotId.{SlotId}
+use Rattle.protected_loads.specs.plain_state.Lists.{Entry, Gains, entry_times}
+use Rattle.protected_loads.proofs.Below.plain_state.Kit.{entry_in, entry_loses}
+use Rattle.protected_loads.specs.plain_state.Places.{content, place_kind}
+use Rattle.protected_loads.specs.plain_state.State.{Plain, PlainSeat, seat_at, with_seat}
+use Rattle.protected_loads.specs.plain_state.Steps.{Does, word_of}
 use Rattle.plain_settling.specs.Snapshots.{FindsNone, IsProtected}
-use Rattle.plain_protocol.specs.Owns.{OwnPart}
-use Rattle.core_events.specs.declared.act.Act.TheVariants as act
-use Rattle.core_events.specs.declared.outcome.Outcome.TheVariants as outcome
-use Rattle.core_events.specs.declared.view.CoreView.{CoreView}
-use Rattle.core_events.specs.declared.view.Note.TheVariants as note
-use Rattle.core_events.specs.Runs.{Core}
-use Rattle.core_events.specs.Shows.{show_seat, shows}
-use Rattle.core_events.specs.Steps.{HasRoom}
-use Rattle.core_events.specs.Views.{note_of, valid_of}
-use Rattle.acquire_retire.specs.Calls.{IsSameView, same_view}
-use Rattle.acquire_retire.specs.Collecting.{move}
-use Rattle.acquire_retire.specs.Domains.{DomainState}
-use Rattle.acquire_retire.specs.Seats.{SeatState}
-use Rattle.control_word.specs.Resting.{IsAtRest}
+use Rattle.protected_loads.specs.plain_protocol.Owns.{OwnPart}
+use Rattle.protected_loads.specs.core_events.declared.act.Act.TheVariants as act
+use Rattle.protected_loads.specs.core_events.declared.outcome.Outcome.TheVariants as outcome
+use Rattle.protected_loads.specs.core_events.declared.view.CoreView.{CoreView}
+use Rattle.protected_loads.specs.core_events.declared.view.Note.TheVariants as note
+use Rattle.protected_loads.specs.core_events.Runs.{Core}
+use Rattle.protected_loads.specs.core_events.Shows.{show_seat, shows}
+use Rattle.protected_loads.specs.core_events.Steps.{HasRoom}
+use Rattle.protected_loads.specs.core_events.Views.{note_of, valid_of}
+use Rattle.protected_loads.specs.acquire_retire.Calls.{IsSameView, same_view}
+use Rattle.protected_loads.specs.acquire_retire.Collecting.{move}
+use Rattle.protected_loads.specs.acquire_retire.Domains.{DomainState}
+use Rattle.protected_loads.specs.acquire_retire.Seats.{SeatState}
+use Rattle.protected_loads.specs.control_word.Resting.{IsAtRest}
 use Rattle.protected_loads.specs.Loads.{Announces, FindsNull, Misses, Protects, announced_by, protected_by}
 use Rattle.protected_loads.proofs.Noting.{snapshot_gains}
 use Rattle.slot_store.proofs.Objects.{known_before}

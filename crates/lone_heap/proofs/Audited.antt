@@ -1,18 +1,18 @@
 -- What an audit of a seat that is alone finds, of the state that the seat knows.
 use Rattle.std.proofs.Common.{◌≡◌, ℕ, List, length, ap, sym, ◌∙◌, subst}
 use Rattle.std.specs.Prelude.{Option, Some, None, Result, Ok, Err, IfOk}
-use Rattle.plain_state.specs.State.{Plain}
-use Rattle.heap_audit.specs.declared.finding.Audit.{Audit}
-use Rattle.plain_audit.specs.Audits.{IsAudit}
-use Rattle.core_events.specs.Shows.{show_slot}
-use Rattle.core_events.specs.Steps.{HasRoom}
-use Rattle.core_law.proofs.Each.{length_each}
-use Rattle.domain_rule.specs.Views.{own_of}
-use Rattle.acquire_retire.specs.Calls.{IsSameView, same_view}
-use Rattle.acquire_retire.specs.Domains.{DomainState}
-use Rattle.acquire_retire.specs.Seats.{SeatState}
-use Rattle.acquire_retire.specs.Wholes.{known_core}
-use Rattle.control_word.specs.Resting.{IsAtRest}
+use Rattle.protected_loads.specs.plain_state.State.{Plain}
+use Rattle.domain_audit.specs.heap_audit.declared.finding.Audit.{Audit}
+use Rattle.domain_audit.specs.plain_audit.Audits.{IsAudit}
+use Rattle.protected_loads.specs.core_events.Shows.{show_slot}
+use Rattle.protected_loads.specs.core_events.Steps.{HasRoom}
+use Rattle.protected_loads.proofs.Below.core_law.Each.{length_each}
+use Rattle.protected_loads.specs.domain_rule.Views.{own_of}
+use Rattle.protected_loads.specs.acquire_retire.Calls.{IsSameView, same_view}
+use Rattle.protected_loads.specs.acquire_retire.Domains.{DomainState}
+use Rattle.protected_loads.specs.acquire_retire.Seats.{SeatState}
+use Rattle.protected_loads.specs.acquire_retire.Wholes.{known_core}
+use Rattle.protected_loads.specs.control_word.Resting.{IsAtRest}
 use Rattle.domain_audit.specs.Audits.{IsWholeAudit, Stays, there_and_back}
 use Rattle.domain_audit.proofs.Learning.{knows_shown}
 use Rattle.lone_heap.specs.Lone.{IsReady, known_plain}

@@ -1,38 +1,38 @@
 -- What a seat that is alone is told by a step that changes nothing.
 use Rattle.std.proofs.Common.{◌≡◌, ⊎_elim, ℕ, ◌<◌, Bool, true, false, List, [], ◌∷◌, refl, ap, sym, ◌∙◌, subst, arith}
 use Rattle.std.specs.Prelude.{◌==◌, slice_index, if◌then◌else◌}
-use Rattle.plain_state.specs.declared.act.PlainAct.{PlainAct}
-use Rattle.plain_state.specs.declared.act.PlainAct.TheVariants as plain
-use Rattle.plain_state.specs.declared.slot.PlainSlot.{PlainSlot}
-use Rattle.plain_state.specs.declared.slot.SlotId.{SlotId}
-use Rattle.plain_state.specs.References.{strong_refs, weak_refs}
-use Rattle.plain_state.specs.State.{Plain, slot_at}
-use Rattle.plain_state.specs.Steps.{Does}
-use Rattle.plain_store.specs.Settling.{IsSettled}
-use Rattle.plain_protocol.specs.Owns.{OwnPart}
-use Rattle.counter_word.specs.Words.{has_zero, value}
-use Rattle.core_events.specs.declared.act.Act.TheVariants as act
-use Rattle.core_events.specs.declared.outcome.Outcome.TheVariants as outcome
-use Rattle.core_events.specs.declared.view.CoreView.{CoreView}
-use Rattle.core_events.specs.declared.view.Phase.{Phase}
-use Rattle.core_events.specs.declared.view.Phase.TheVariants as phase
-use Rattle.core_events.specs.Counts.{strong}
-use Rattle.core_events.specs.Runs.{Core}
-use Rattle.core_events.specs.Shows.{shows}
-use Rattle.core_events.specs.ShownSteps.{on_slot, shown_number}
-use Rattle.core_events.specs.Steps.{HasRoom}
-use Rattle.core_events.specs.Views.{Holds, slot_of}
-use Rattle.core_law.proofs.Bridge.{shown_slot}
-use Rattle.core_law.proofs.Held.{held_named}
-use Rattle.core_law.proofs.Steady.{named_in_range}
-use Rattle.acquire_retire.specs.Collecting.{move}
-use Rattle.acquire_retire.specs.Domains.{DomainState}
-use Rattle.acquire_retire.specs.Seats.{SeatState}
-use Rattle.acquire_retire.specs.Wholes.{known_core}
-use Rattle.acquire_retire.specs.Calls.{IsSameView, same_view}
-use Rattle.control_word.specs.Calls.{CountsStrong, CountsWeak, counted_by}
-use Rattle.control_word.specs.Moves.{Becomes, last_core}
-use Rattle.control_word.specs.Resting.{IsAtRest}
+use Rattle.protected_loads.specs.plain_state.declared.act.PlainAct.{PlainAct}
+use Rattle.protected_loads.specs.plain_state.declared.act.PlainAct.TheVariants as plain
+use Rattle.protected_loads.specs.plain_state.declared.slot.PlainSlot.{PlainSlot}
+use Rattle.protected_loads.specs.plain_state.declared.slot.SlotId.{SlotId}
+use Rattle.protected_loads.specs.plain_state.References.{strong_refs, weak_refs}
+use Rattle.protected_loads.specs.plain_state.State.{Plain, slot_at}
+use Rattle.protected_loads.specs.plain_state.Steps.{Does}
+use Rattle.plain_settling.specs.plain_store.Settling.{IsSettled}
+use Rattle.protected_loads.specs.plain_protocol.Owns.{OwnPart}
+use Rattle.protected_loads.specs.counter_word.Words.{has_zero, value}
+use Rattle.protected_loads.specs.core_events.declared.act.Act.TheVariants as act
+use Rattle.protected_loads.specs.core_events.declared.outcome.Outcome.TheVariants as outcome
+use Rattle.protected_loads.specs.core_events.declared.view.CoreView.{CoreView}
+use Rattle.protected_loads.specs.core_events.declared.view.Phase.{Phase}
+use Rattle.protected_loads.specs.core_events.declared.view.Phase.TheVariants as phase
+use Rattle.protected_loads.specs.core_events.Counts.{strong}
+use Rattle.protected_loads.specs.core_events.Runs.{Core}
+use Rattle.protected_loads.specs.core_events.Shows.{shows}
+use Rattle.protected_loads.specs.core_events.ShownSteps.{on_slot, shown_number}
+use Rattle.protected_loads.specs.core_events.Steps.{HasRoom}
+use Rattle.protected_loads.specs.core_events.Views.{Holds, slot_of}
+use Rattle.protected_loads.proofs.Below.core_law.Bridge.{shown_slot}
+use Rattle.protected_loads.proofs.Below.core_law.Held.{held_named}
+use Rattle.protected_loads.proofs.Below.core_law.Steady.{named_in_range}
+use Rattle.protected_loads.specs.acquire_retire.Collecting.{move}
+use Rattle.protected_loads.specs.acquire_retire.Domains.{DomainState}
+use Rattle.protected_loads.specs.acquire_retire.Seats.{SeatState}
+use Rattle.protected_loads.specs.acquire_retire.Wholes.{known_core}
+use Rattle.protected_loads.specs.acquire_retire.Calls.{IsSameView, same_view}
+use Rattle.protected_loads.specs.control_word.Calls.{CountsStrong, CountsWeak, counted_by}
+use Rattle.protected_loads.specs.control_word.Moves.{Becomes, last_core}
+use Rattle.protected_loads.specs.control_word.Resting.{IsAtRest}
 use Rattle.slot_store.specs.Calls.{SeesWord}
 use Rattle.slot_store.proofs.Objects.{known_before}
 use Rattle.lone_heap.specs.Lone.{IsReady, known_plain}

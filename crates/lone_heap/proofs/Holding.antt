@@ -1,29 +1,29 @@
 -- What a seat that is alone knows after steps, and that it is as ready as it was.
 use Rattle.std.proofs.Common.{◌≡◌, ℕ, List, [], ◌∷◌, length, ap, sym, ◌∙◌, subst, arith}
 use Rattle.std.specs.Prelude.{Result, Ok, Err, IfOk, OnErr}
-use Rattle.plain_state.specs.declared.act.PlainAct.{PlainAct}
-use Rattle.plain_state.specs.declared.slot.Kind.TheVariants.{Disposal}
-use Rattle.plain_state.specs.declared.slot.SlotId.{SlotId}
-use Rattle.plain_state.specs.Lists.{entry_times}
-use Rattle.plain_state.specs.State.{Plain, seat_at}
-use Rattle.plain_protocol.specs.Owns.{OwnPart}
-use Rattle.core_events.specs.declared.act.Act.{Act}
-use Rattle.core_events.specs.declared.outcome.Outcome.{Outcome}
-use Rattle.core_events.specs.declared.shape.Shape.{Shape}
-use Rattle.core_events.specs.declared.view.CoreView.{CoreView}
-use Rattle.core_events.specs.declared.view.LeftSeat.{LeftSeat}
-use Rattle.core_events.specs.declared.view.Move.{Move}
-use Rattle.core_events.specs.declared.view.Note.{Note}
-use Rattle.core_events.specs.Runs.{Core, after, view_at}
-use Rattle.core_events.specs.Shows.{show_seat, shows}
-use Rattle.core_events.specs.Steps.{HasRoom}
-use Rattle.core_events.specs.Views.{valid_of}
-use Rattle.core_law.proofs.Bridge.{shown_seat}
-use Rattle.acquire_retire.specs.Calls.{Steps}
-use Rattle.acquire_retire.specs.Collecting.{WalksBy}
-use Rattle.acquire_retire.specs.Domains.{DomainState}
-use Rattle.acquire_retire.specs.Seats.{SeatState}
-use Rattle.control_word.specs.Resting.{IsAtRest}
+use Rattle.protected_loads.specs.plain_state.declared.act.PlainAct.{PlainAct}
+use Rattle.protected_loads.specs.plain_state.declared.slot.Kind.TheVariants.{Disposal}
+use Rattle.protected_loads.specs.plain_state.declared.slot.SlotId.{SlotId}
+use Rattle.protected_loads.specs.plain_state.Lists.{entry_times}
+use Rattle.protected_loads.specs.plain_state.State.{Plain, seat_at}
+use Rattle.protected_loads.specs.plain_protocol.Owns.{OwnPart}
+use Rattle.protected_loads.specs.core_events.declared.act.Act.{Act}
+use Rattle.protected_loads.specs.core_events.declared.outcome.Outcome.{Outcome}
+use Rattle.protected_loads.specs.core_events.declared.shape.Shape.{Shape}
+use Rattle.protected_loads.specs.core_events.declared.view.CoreView.{CoreView}
+use Rattle.protected_loads.specs.core_events.declared.view.LeftSeat.{LeftSeat}
+use Rattle.protected_loads.specs.core_events.declared.view.Move.{Move}
+use Rattle.protected_loads.specs.core_events.declared.view.Note.{Note}
+use Rattle.protected_loads.specs.core_events.Runs.{Core, after, view_at}
+use Rattle.protected_loads.specs.core_events.Shows.{show_seat, shows}
+use Rattle.protected_loads.specs.core_events.Steps.{HasRoom}
+use Rattle.protected_loads.specs.core_events.Views.{valid_of}
+use Rattle.protected_loads.proofs.Below.core_law.Bridge.{shown_seat}
+use Rattle.protected_loads.specs.acquire_retire.Calls.{Steps}
+use Rattle.protected_loads.specs.acquire_retire.Collecting.{WalksBy}
+use Rattle.protected_loads.specs.acquire_retire.Domains.{DomainState}
+use Rattle.protected_loads.specs.acquire_retire.Seats.{SeatState}
+use Rattle.protected_loads.specs.control_word.Resting.{IsAtRest}
 use Rattle.slot_store.proofs.Objects.{known_after, known_still, sound_later}
 use Rattle.lone_heap.specs.Lone.{IsReady, known_plain}
 use Rattle.lone_heap.proofs.Tidying.{Knows}

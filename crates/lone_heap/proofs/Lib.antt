@@ -1,3 +1,4 @@
+pub mod Below
 pub mod Owing
 pub mod Stepping
 pub mod Trailing

@@ -2,40 +2,40 @@
 use Rattle.std.proofs.Common.{◌≡◌, ◌≢◌, ⊎_elim, ℕ, zero, suc, ◌+◌, ◌<◌, Bool, true, false, List, [], ◌∷◌, ◌++◌, length, refl, ap, sym, ◌∙◌, subst, arith, append_assoc}
 use Rattle.std.specs.Prelude.{◌==◌, nat_lt, Result, Ok, Err, IfOk, slice_index, if◌then◌else◌}
 use Rattle.std.proofs.lemmas.List.Elements.{All-from_get_or}
-use Rattle.plain_state.specs.declared.act.PlainAct.{PlainAct}
-use Rattle.plain_state.specs.declared.act.PlainAct.TheVariants as plain
-use Rattle.plain_state.specs.declared.slot.PlainSlot.{PlainSlot}
-use Rattle.plain_state.specs.declared.slot.SlotId.{SlotId}
-use Rattle.plain_state.specs.declared.slot.Stage.TheVariants.{Free, Blank, Live, Ended, Husk}
-use Rattle.plain_state.specs.Runs.{Runs}
-use Rattle.plain_state.specs.State.{Plain, new_slot, stage_at}
-use Rattle.plain_state.specs.Steps.{Does}
-use Rattle.plain_store.specs.Heaps.{NoneFree, fills}
-use Rattle.plain_store.specs.Heaps as store
-use Rattle.plain_protocol.specs.Owns.{OwnPart}
-use Rattle.core_events.specs.declared.act.Act.TheVariants as act
-use Rattle.core_events.specs.declared.outcome.Outcome.{Outcome}
-use Rattle.core_events.specs.declared.outcome.Outcome.TheVariants as outcome
-use Rattle.core_events.specs.declared.view.CoreView.{CoreView}
-use Rattle.core_events.specs.declared.view.Move.{Move}
-use Rattle.core_events.specs.declared.view.Phase.{Phase}
-use Rattle.core_events.specs.declared.view.Phase.TheVariants as phase
-use Rattle.core_events.specs.Counts.{Signs, is_live_word, signs, stage_of}
-use Rattle.core_events.specs.Runs.{Core}
-use Rattle.core_events.specs.Shows.{show_slot, shows}
-use Rattle.core_events.specs.ShownSteps.{on_slot}
-use Rattle.core_events.specs.Steps.{HasRoom}
-use Rattle.core_events.specs.Views.{about, slot_of}
-use Rattle.core_events.specs.Words.{bit_in, bits_at, each_from, slot_at}
-use Rattle.core_law.proofs.Each.{length_each}
-use Rattle.core_law.proofs.Bridge.{shown_stage}
-use Rattle.acquire_retire.specs.Calls.{IsSameView, Steps, same_view}
-use Rattle.acquire_retire.specs.Collecting.{Walks, move}
-use Rattle.acquire_retire.specs.Domains.{DomainState}
-use Rattle.acquire_retire.specs.Seats.{SeatState}
-use Rattle.acquire_retire.specs.Wholes.{known_core}
-use Rattle.counted_handles.specs.Handles.{Handle}
-use Rattle.control_word.specs.Resting.{IsAtRest}
+use Rattle.protected_loads.specs.plain_state.declared.act.PlainAct.{PlainAct}
+use Rattle.protected_loads.specs.plain_state.declared.act.PlainAct.TheVariants as plain
+use Rattle.protected_loads.specs.plain_state.declared.slot.PlainSlot.{PlainSlot}
+use Rattle.protected_loads.specs.plain_state.declared.slot.SlotId.{SlotId}
+use Rattle.protected_loads.specs.plain_state.declared.slot.Stage.TheVariants.{Free, Blank, Live, Ended, Husk}
+use Rattle.protected_loads.specs.plain_state.Runs.{Runs}
+use Rattle.protected_loads.specs.plain_state.State.{Plain, new_slot, stage_at}
+use Rattle.protected_loads.specs.plain_state.Steps.{Does}
+use Rattle.plain_settling.specs.plain_store.Heaps.{NoneFree, fills}
+use Rattle.plain_settling.specs.plain_store.Heaps as store
+use Rattle.protected_loads.specs.plain_protocol.Owns.{OwnPart}
+use Rattle.protected_loads.specs.core_events.declared.act.Act.TheVariants as act
+use Rattle.protected_loads.specs.core_events.declared.outcome.Outcome.{Outcome}
+use Rattle.protected_loads.specs.core_events.declared.outcome.Outcome.TheVariants as outcome
+use Rattle.protected_loads.specs.core_events.declared.view.CoreView.{CoreView}
+use Rattle.protected_loads.specs.core_events.declared.view.Move.{Move}
+use Rattle.protected_loads.specs.core_events.declared.view.Phase.{Phase}
+use Rattle.protected_loads.specs.core_events.declared.view.Phase.TheVariants as phase
+use Rattle.protected_loads.specs.core_events.Counts.{Signs, is_live_word, signs, stage_of}
+use Rattle.protected_loads.specs.core_events.Runs.{Core}
+use Rattle.protected_loads.specs.core_events.Shows.{show_slot, shows}
+use Rattle.protected_loads.specs.core_events.ShownSteps.{on_slot}
+use Rattle.protected_loads.specs.core_events.Steps.{HasRoom}
+use Rattle.protected_loads.specs.core_events.Views.{about, slot_of}
+use Rattle.protected_loads.specs.core_events.Words.{bit_in, bits_at, each_from, slot_at}
+use Rattle.protected_loads.proofs.Below.core_law.Each.{length_each}
+use Rattle.protected_loads.proofs.Below.core_law.Bridge.{shown_stage}
+use Rattle.protected_loads.specs.acquire_retire.Calls.{IsSameView, Steps, same_view}
+use Rattle.protected_loads.specs.acquire_retire.Collecting.{Walks, move}
+use Rattle.protected_loads.specs.acquire_retire.Domains.{DomainState}
+use Rattle.protected_loads.specs.acquire_retire.Seats.{SeatState}
+use Rattle.protected_loads.specs.acquire_retire.Wholes.{known_core}
+use Rattle.protected_loads.specs.counted_handles.Handles.{Handle}
+use Rattle.protected_loads.specs.control_word.Resting.{IsAtRest}
 use Rattle.slot_store.specs.declared.making.MakeError.{MakeError}
 use Rattle.slot_store.specs.declared.making.MakeError.TheVariants as refused
 use Rattle.slot_store.specs.Calls.{Makes, begun_by, filled_by}

@@ -2,25 +2,25 @@
 use Rattle.std.proofs.Common.{◌≡◌, ◌≤◌, ℕ, [], ◌∷◌, refl, ap, sym, ◌∙◌, subst, arith}
 use Rattle.std.proofs.lemmas.List.Elements.{All-cons, All-get_or, All-nil}
 use Rattle.std.specs.Prelude.{slice_index_or}
-use Rattle.plain_state.specs.Limits.{most_cells, most_slots, most_weak_cells}
-use Rattle.plain_state.specs.declared.slot.Kind.TheVariants.{Disposal}
-use Rattle.plain_state.specs.State.{Plain, empty, seat_at}
-use Rattle.plain_state.proofs.Kit.{entry_none}
+use Rattle.protected_loads.specs.plain_state.Limits.{most_cells, most_slots, most_weak_cells}
+use Rattle.protected_loads.specs.plain_state.declared.slot.Kind.TheVariants.{Disposal}
+use Rattle.protected_loads.specs.plain_state.State.{Plain, empty, seat_at}
+use Rattle.protected_loads.proofs.Below.plain_state.Kit.{entry_none}
 use Rattle.atomic_table.specs.Seated.{TableId}
-use Rattle.core_events.specs.declared.shape.Quota.{Quota}
-use Rattle.core_events.specs.declared.shape.Shape.{Shape}
-use Rattle.core_events.specs.declared.shape.ShapeField.{ShapeField}
-use Rattle.core_events.specs.declared.shape.ShapeField.TheVariants.{Seats, Slots, Cells, WeakCells, Batch, Quotas}
-use Rattle.core_events.specs.Runs.{AreTerms, IsQuota, IsShape}
-use Rattle.core_functions.specs.Fields.{IsFirstBad, IsInRange}
-use Rattle.core_events.specs.Steps.{HasRoom}
-use Rattle.core_events.specs.Views.{Terms}
-use Rattle.domain_rule.proofs.StartShown.{start_shown}
-use Rattle.acquire_retire.specs.Domains.{DomainState}
-use Rattle.acquire_retire.specs.Openings.{begun_seat, opened_seats}
-use Rattle.acquire_retire.specs.Seats.{SeatState}
-use Rattle.control_word.specs.Resting.{IsAtRest}
-use Rattle.control_word.proofs.Beginning.{all_at_rest}
+use Rattle.protected_loads.specs.core_events.declared.shape.Quota.{Quota}
+use Rattle.protected_loads.specs.core_events.declared.shape.Shape.{Shape}
+use Rattle.protected_loads.specs.core_events.declared.shape.ShapeField.{ShapeField}
+use Rattle.protected_loads.specs.core_events.declared.shape.ShapeField.TheVariants.{Seats, Slots, Cells, WeakCells, Batch, Quotas}
+use Rattle.protected_loads.specs.core_events.Runs.{AreTerms, IsQuota, IsShape}
+use Rattle.protected_loads.specs.core_functions.Fields.{IsFirstBad, IsInRange}
+use Rattle.protected_loads.specs.core_events.Steps.{HasRoom}
+use Rattle.protected_loads.specs.core_events.Views.{Terms}
+use Rattle.slot_store.proofs.Below.domain_rule.StartShown.{start_shown}
+use Rattle.protected_loads.specs.acquire_retire.Domains.{DomainState}
+use Rattle.protected_loads.specs.acquire_retire.Openings.{begun_seat, opened_seats}
+use Rattle.protected_loads.specs.acquire_retire.Seats.{SeatState}
+use Rattle.protected_loads.specs.control_word.Resting.{IsAtRest}
+use Rattle.protected_loads.proofs.Below.control_word.Beginning.{all_at_rest}
 use Rattle.lone_heap.specs.Lone.{IsReady, known_plain}
 
 -- such a domain, whatever its sizes and its seat's quota

@@ -2,29 +2,29 @@
 use Rattle.std.proofs.Common.{◌≡◌, ⊎_elim, ℕ, suc, ◌+◌, ◌<◌, ◌≤◌, Bool, true, false, List, [], ◌∷◌, length, get_or, refl, ap, sym, ◌∙◌, subst, arith}
 use Rattle.std.specs.Prelude.{Option}
 use Rattle.std.proofs.lemmas.Bool.{cases_lt}
-use Rattle.plain_state.specs.declared.slot.Kind.{Kind}
-use Rattle.plain_state.specs.declared.slot.Kind.TheVariants.{Strong, Weak, Disposal}
-use Rattle.plain_state.specs.declared.slot.SlotId.{SlotId}
-use Rattle.plain_state.specs.Ejection.{Announcements, ejected, kept}
-use Rattle.plain_state.specs.Lists.{Entry, entry_times}
-use Rattle.plain_state.specs.State.{PlainSeat}
-use Rattle.plain_state.proofs.Ejections.{kept_times, split_times}
-use Rattle.plain_state.proofs.Kit.{entry_append, entry_cons, entry_in, entry_is, entry_none, entry_self}
+use Rattle.protected_loads.specs.plain_state.declared.slot.Kind.{Kind}
+use Rattle.protected_loads.specs.plain_state.declared.slot.Kind.TheVariants.{Strong, Weak, Disposal}
+use Rattle.protected_loads.specs.plain_state.declared.slot.SlotId.{SlotId}
+use Rattle.protected_loads.specs.plain_state.Ejection.{Announcements, ejected, kept}
+use Rattle.protected_loads.specs.plain_state.Lists.{Entry, entry_times}
+use Rattle.protected_loads.specs.plain_state.State.{PlainSeat}
+use Rattle.protected_loads.proofs.Below.plain_state.Ejections.{kept_times, split_times}
+use Rattle.protected_loads.proofs.Below.plain_state.Kit.{entry_append, entry_cons, entry_in, entry_is, entry_none, entry_self}
 use Rattle.plain_settling.specs.Settling.{IsSurplus}
-use Rattle.announce_slots.specs.Seen.{announced_in}
-use Rattle.announce_slots.specs.Words.{code}
-use Rattle.announce_slots.proofs.Counting.{seen_cons, word_one, word_same}
-use Rattle.core_events.specs.declared.act.Act.{Act}
-use Rattle.core_events.specs.declared.act.Act.TheVariants as act
-use Rattle.core_events.specs.declared.shape.Shape.{Shape}
-use Rattle.core_events.specs.declared.view.CoreView.{CoreView}
-use Rattle.core_events.specs.declared.view.Note.{Note}
-use Rattle.core_events.specs.declared.view.Note.TheVariants as note
-use Rattle.core_events.specs.declared.view.Phase.{Phase}
-use Rattle.core_events.specs.Good.{word_of_note}
-use Rattle.core_events.specs.Shows.{show_seat}
-use Rattle.core_events.specs.Steps.{ended, moved, paid}
-use Rattle.core_events.specs.Views.{note_of, snapshots, valid_of}
+use Rattle.protected_loads.specs.announce_slots.Seen.{announced_in}
+use Rattle.protected_loads.specs.announce_slots.Words.{code}
+use Rattle.protected_loads.proofs.Below.announce_slots.Counting.{seen_cons, word_one, word_same}
+use Rattle.protected_loads.specs.core_events.declared.act.Act.{Act}
+use Rattle.protected_loads.specs.core_events.declared.act.Act.TheVariants as act
+use Rattle.protected_loads.specs.core_events.declared.shape.Shape.{Shape}
+use Rattle.protected_loads.specs.core_events.declared.view.CoreView.{CoreView}
+use Rattle.protected_loads.specs.core_events.declared.view.Note.{Note}
+use Rattle.protected_loads.specs.core_events.declared.view.Note.TheVariants as note
+use Rattle.protected_loads.specs.core_events.declared.view.Phase.{Phase}
+use Rattle.protected_loads.specs.core_events.Good.{word_of_note}
+use Rattle.protected_loads.specs.core_events.Shows.{show_seat}
+use Rattle.protected_loads.specs.core_events.Steps.{ended, moved, paid}
+use Rattle.protected_loads.specs.core_events.Views.{note_of, snapshots, valid_of}
 use Rattle.slot_store.proofs.OwnNotes.{AreOwn}
 
 -- of an entry that it owes as many are retired as it is under snapshots of

@@ -1,31 +1,31 @@
 -- What a call on references of a seat that is alone shows: one more, and one fewer.
 use Rattle.std.proofs.Common.{◌≡◌, ℕ, Bool, true, false, List, [], ◌∷◌, refl, ap, sym, ◌∙◌, subst}
 use Rattle.std.specs.Prelude.{nat_lt, Result, Ok, Err, IfOk, if◌then◌else◌}
-use Rattle.plain_state.specs.declared.act.PlainAct.{PlainAct}
-use Rattle.plain_state.specs.declared.act.PlainAct.TheVariants as plain
-use Rattle.plain_state.specs.declared.slot.SlotId.{SlotId}
-use Rattle.plain_state.specs.State.{Plain}
-use Rattle.plain_state.specs.Steps.{Does}
-use Rattle.plain_store.specs.Calls.{Gains, WeaklyGains}
-use Rattle.plain_protocol.specs.Owns.{OwnPart}
-use Rattle.counter_word.specs.Words.{ZERO}
-use Rattle.core_events.specs.declared.act.Act.TheVariants as act
-use Rattle.core_events.specs.declared.outcome.Outcome.{Outcome}
-use Rattle.core_events.specs.declared.outcome.Outcome.TheVariants as outcome
-use Rattle.core_events.specs.declared.view.CoreView.{CoreView}
-use Rattle.core_events.specs.declared.view.Move.{Move}
-use Rattle.core_events.specs.Steps.{HasRoom}
-use Rattle.acquire_retire.specs.declared.payment.Payment.{Payment}
-use Rattle.acquire_retire.specs.declared.payment.Payment.TheVariants as payment
-use Rattle.acquire_retire.specs.Calls.{IsSameView, same_view}
-use Rattle.acquire_retire.specs.Collecting.{Walks, ends, move}
-use Rattle.acquire_retire.specs.Domains.{DomainState}
-use Rattle.acquire_retire.specs.Seats.{SeatState}
-use Rattle.counted_handles.specs.Handles.{Handle}
-use Rattle.control_word.specs.declared.upgrading.UpgradeError.{UpgradeError}
-use Rattle.control_word.specs.declared.upgrading.UpgradeError.TheVariants as refused
-use Rattle.control_word.specs.Calls.{DropsStrong, DropsWeak, FindsEnded, GainsStrong, GainsWeak, dropped_by, weakly_dropped_by, with_ended, without_strong}
-use Rattle.control_word.specs.Resting.{IsAtRest}
+use Rattle.protected_loads.specs.plain_state.declared.act.PlainAct.{PlainAct}
+use Rattle.protected_loads.specs.plain_state.declared.act.PlainAct.TheVariants as plain
+use Rattle.protected_loads.specs.plain_state.declared.slot.SlotId.{SlotId}
+use Rattle.protected_loads.specs.plain_state.State.{Plain}
+use Rattle.protected_loads.specs.plain_state.Steps.{Does}
+use Rattle.plain_settling.specs.plain_store.Calls.{Gains, WeaklyGains}
+use Rattle.protected_loads.specs.plain_protocol.Owns.{OwnPart}
+use Rattle.protected_loads.specs.counter_word.Words.{ZERO}
+use Rattle.protected_loads.specs.core_events.declared.act.Act.TheVariants as act
+use Rattle.protected_loads.specs.core_events.declared.outcome.Outcome.{Outcome}
+use Rattle.protected_loads.specs.core_events.declared.outcome.Outcome.TheVariants as outcome
+use Rattle.protected_loads.specs.core_events.declared.view.CoreView.{CoreView}
+use Rattle.protected_loads.specs.core_events.declared.view.Move.{Move}
+use Rattle.protected_loads.specs.core_events.Steps.{HasRoom}
+use Rattle.protected_loads.specs.acquire_retire.declared.payment.Payment.{Payment}
+use Rattle.protected_loads.specs.acquire_retire.declared.payment.Payment.TheVariants as payment
+use Rattle.protected_loads.specs.acquire_retire.Calls.{IsSameView, same_view}
+use Rattle.protected_loads.specs.acquire_retire.Collecting.{Walks, ends, move}
+use Rattle.protected_loads.specs.acquire_retire.Domains.{DomainState}
+use Rattle.protected_loads.specs.acquire_retire.Seats.{SeatState}
+use Rattle.protected_loads.specs.counted_handles.Handles.{Handle}
+use Rattle.protected_loads.specs.control_word.declared.upgrading.UpgradeError.{UpgradeError}
+use Rattle.protected_loads.specs.control_word.declared.upgrading.UpgradeError.TheVariants as refused
+use Rattle.protected_loads.specs.control_word.Calls.{DropsStrong, DropsWeak, FindsEnded, GainsStrong, GainsWeak, dropped_by, weakly_dropped_by, with_ended, without_strong}
+use Rattle.protected_loads.specs.control_word.Resting.{IsAtRest}
 use Rattle.lone_heap.specs.Lone.{IsReady, ThenTidies, known_plain}
 use Rattle.lone_heap.proofs.Owing.{owes_none}
 use Rattle.lone_heap.proofs.Stepping.{step_does}

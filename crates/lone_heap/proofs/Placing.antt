@@ -1,39 +1,39 @@
 -- What a seat that is alone puts into a place, and what is deferred by that.
 use Rattle.std.proofs.Common.{◌≡◌, ⊎_elim, ℕ, Bool, true, false, List, [], ◌∷◌, refl, ap, sym, ◌∙◌, subst, arith}
 use Rattle.std.specs.Prelude.{is_ok, Option, Some, None, slice_index, Result, Ok, Err, IfOk, IfErr}
-use Rattle.plain_state.specs.declared.act.EventPlace.{EventPlace}
-use Rattle.plain_state.specs.declared.act.EventPlace.TheVariants.{Cell, Field, WeakCell, WeakField}
-use Rattle.plain_state.specs.declared.act.PlainAct.{PlainAct}
-use Rattle.plain_state.specs.declared.act.PlainAct.TheVariants as plain
-use Rattle.plain_state.specs.declared.slot.Kind.{Kind}
-use Rattle.plain_state.specs.declared.slot.Kind.TheVariants.{Strong, Weak, Disposal}
-use Rattle.plain_state.specs.declared.slot.SlotId.{SlotId}
-use Rattle.plain_state.specs.Places.{HoldsStrongly, content, place_kind}
-use Rattle.plain_state.specs.Places.{IsOpen as PlainIsOpen}
-use Rattle.plain_state.specs.State.{Plain, PlainSeat, seat_at}
-use Rattle.plain_state.specs.Steps.{Does}
-use Rattle.plain_store.specs.Calls.{MayGive, Puts, Tries}
+use Rattle.protected_loads.specs.plain_state.declared.act.EventPlace.{EventPlace}
+use Rattle.protected_loads.specs.plain_state.declared.act.EventPlace.TheVariants.{Cell, Field, WeakCell, WeakField}
+use Rattle.protected_loads.specs.plain_state.declared.act.PlainAct.{PlainAct}
+use Rattle.protected_loads.specs.plain_state.declared.act.PlainAct.TheVariants as plain
+use Rattle.protected_loads.specs.plain_state.declared.slot.Kind.{Kind}
+use Rattle.protected_loads.specs.plain_state.declared.slot.Kind.TheVariants.{Strong, Weak, Disposal}
+use Rattle.protected_loads.specs.plain_state.declared.slot.SlotId.{SlotId}
+use Rattle.protected_loads.specs.plain_state.Places.{HoldsStrongly, content, place_kind}
+use Rattle.protected_loads.specs.plain_state.Places.{IsOpen as PlainIsOpen}
+use Rattle.protected_loads.specs.plain_state.State.{Plain, PlainSeat, seat_at}
+use Rattle.protected_loads.specs.plain_state.Steps.{Does}
+use Rattle.plain_settling.specs.plain_store.Calls.{MayGive, Puts, Tries}
 use Rattle.plain_settling.proofs.Settling.{tidies_none}
-use Rattle.plain_protocol.specs.Owns.{OwnPart}
-use Rattle.core_events.specs.declared.act.Act.TheVariants as act
-use Rattle.core_events.specs.declared.outcome.Outcome.TheVariants as outcome
-use Rattle.core_events.specs.declared.view.CoreView.{CoreView}
-use Rattle.core_events.specs.declared.view.Move.{Move}
-use Rattle.core_events.specs.Runs.{Core}
-use Rattle.core_events.specs.Shows.{shows}
-use Rattle.core_events.specs.Steps.{CanGive, HasRoom, without_given}
-use Rattle.core_events.specs.Views.{IsOpen, IsReadable}
-use Rattle.core_events.specs.Words.{cell_at, slot_in, weak_cell_at}
-use Rattle.core_law.proofs.Each.{length_each}
-use Rattle.acquire_retire.specs.Calls.{IsSameView, same_view}
-use Rattle.acquire_retire.specs.Collecting.{move}
-use Rattle.acquire_retire.specs.Domains.{DomainState}
-use Rattle.acquire_retire.specs.Seats.{SeatState}
-use Rattle.acquire_retire.specs.Wholes.{known_core}
-use Rattle.control_word.specs.Resting.{IsAtRest}
-use Rattle.retiring_stores.specs.Exchanging.{Exchanges, Loses, Replaces, Swaps}
-use Rattle.retiring_stores.specs.Scanning.{Collected, IsBelow, IsDue, ScansWhereDue}
-use Rattle.retiring_stores.proofs.Opened.{stores}
+use Rattle.protected_loads.specs.plain_protocol.Owns.{OwnPart}
+use Rattle.protected_loads.specs.core_events.declared.act.Act.TheVariants as act
+use Rattle.protected_loads.specs.core_events.declared.outcome.Outcome.TheVariants as outcome
+use Rattle.protected_loads.specs.core_events.declared.view.CoreView.{CoreView}
+use Rattle.protected_loads.specs.core_events.declared.view.Move.{Move}
+use Rattle.protected_loads.specs.core_events.Runs.{Core}
+use Rattle.protected_loads.specs.core_events.Shows.{shows}
+use Rattle.protected_loads.specs.core_events.Steps.{CanGive, HasRoom, without_given}
+use Rattle.protected_loads.specs.core_events.Views.{IsOpen, IsReadable}
+use Rattle.protected_loads.specs.core_events.Words.{cell_at, slot_in, weak_cell_at}
+use Rattle.protected_loads.proofs.Below.core_law.Each.{length_each}
+use Rattle.protected_loads.specs.acquire_retire.Calls.{IsSameView, same_view}
+use Rattle.protected_loads.specs.acquire_retire.Collecting.{move}
+use Rattle.protected_loads.specs.acquire_retire.Domains.{DomainState}
+use Rattle.protected_loads.specs.acquire_retire.Seats.{SeatState}
+use Rattle.protected_loads.specs.acquire_retire.Wholes.{known_core}
+use Rattle.protected_loads.specs.control_word.Resting.{IsAtRest}
+use Rattle.slot_store.specs.retiring_stores.Exchanging.{Exchanges, Loses, Replaces, Swaps}
+use Rattle.slot_store.specs.retiring_stores.Scanning.{Collected, IsBelow, IsDue, ScansWhereDue}
+use Rattle.snapshot_ptr.proofs.Below.retiring_stores.Opened.{stores}
 use Rattle.slot_store.proofs.Objects.{known_before}
 use Rattle.lone_heap.specs.Lone.{IsReady, ThenTidies, known_plain}
 use Rattle.lone_heap.specs.Trails.{Shows, ShowsTry}

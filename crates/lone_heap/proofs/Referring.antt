@@ -1,33 +1,33 @@
 -- A seat that is alone counts a reference to what a place holds.
 use Rattle.std.proofs.Common.{◌≡◌, ℕ, ◌<◌, ◌+◌, Bool, true, false, List, [], ◌∷◌, ◌++◌, length, refl, ap, sym, ◌∙◌, subst, arith}
 use Rattle.std.specs.Prelude.{nat_lt, Option, Some, None, if◌then◌else◌}
-use Rattle.plain_state.specs.declared.act.EventPlace.{EventPlace}
-use Rattle.plain_state.specs.declared.act.PlainAct.{PlainAct}
-use Rattle.plain_state.specs.declared.act.PlainAct.TheVariants as plain
-use Rattle.plain_state.specs.declared.slot.Kind.{Kind}
-use Rattle.plain_state.specs.declared.slot.Kind.TheVariants.{Strong, Weak, Disposal}
-use Rattle.plain_state.specs.declared.slot.SlotId.{SlotId}
-use Rattle.plain_state.specs.Places.{content, place_kind}
-use Rattle.plain_state.specs.Runs.{Runs}
-use Rattle.plain_state.specs.State.{Plain, PlainSeat, seat_at, with_seat}
-use Rattle.plain_state.specs.Steps.{Does}
-use Rattle.plain_store.specs.Calls.{Loads as PlainLoads}
-use Rattle.plain_store.specs.Calls.{WeaklyLoads}
-use Rattle.plain_protocol.specs.Owns.{OwnPart}
-use Rattle.core_events.specs.declared.act.Act.TheVariants as act
-use Rattle.core_events.specs.declared.outcome.Outcome.TheVariants as outcome
-use Rattle.core_events.specs.declared.view.CoreView.{CoreView}
-use Rattle.core_events.specs.declared.view.Note.{Note}
-use Rattle.core_events.specs.declared.view.Note.TheVariants as note
-use Rattle.core_events.specs.Shows.{show_seat}
-use Rattle.core_events.specs.ShownSteps.{releases}
-use Rattle.core_events.specs.Steps.{HasRoom}
-use Rattle.core_events.specs.Views.{note_of}
-use Rattle.counter_word.specs.Words.{ZERO}
-use Rattle.acquire_retire.specs.Calls.{IsSameView, Steps, same_view}
-use Rattle.acquire_retire.specs.Domains.{DomainState}
-use Rattle.acquire_retire.specs.Seats.{SeatState}
-use Rattle.control_word.specs.Resting.{IsAtRest}
+use Rattle.protected_loads.specs.plain_state.declared.act.EventPlace.{EventPlace}
+use Rattle.protected_loads.specs.plain_state.declared.act.PlainAct.{PlainAct}
+use Rattle.protected_loads.specs.plain_state.declared.act.PlainAct.TheVariants as plain
+use Rattle.protected_loads.specs.plain_state.declared.slot.Kind.{Kind}
+use Rattle.protected_loads.specs.plain_state.declared.slot.Kind.TheVariants.{Strong, Weak, Disposal}
+use Rattle.protected_loads.specs.plain_state.declared.slot.SlotId.{SlotId}
+use Rattle.protected_loads.specs.plain_state.Places.{content, place_kind}
+use Rattle.protected_loads.specs.plain_state.Runs.{Runs}
+use Rattle.protected_loads.specs.plain_state.State.{Plain, PlainSeat, seat_at, with_seat}
+use Rattle.protected_loads.specs.plain_state.Steps.{Does}
+use Rattle.plain_settling.specs.plain_store.Calls.{Loads as PlainLoads}
+use Rattle.plain_settling.specs.plain_store.Calls.{WeaklyLoads}
+use Rattle.protected_loads.specs.plain_protocol.Owns.{OwnPart}
+use Rattle.protected_loads.specs.core_events.declared.act.Act.TheVariants as act
+use Rattle.protected_loads.specs.core_events.declared.outcome.Outcome.TheVariants as outcome
+use Rattle.protected_loads.specs.core_events.declared.view.CoreView.{CoreView}
+use Rattle.protected_loads.specs.core_events.declared.view.Note.{Note}
+use Rattle.protected_loads.specs.core_events.declared.view.Note.TheVariants as note
+use Rattle.protected_loads.specs.core_events.Shows.{show_seat}
+use Rattle.protected_loads.specs.core_events.ShownSteps.{releases}
+use Rattle.protected_loads.specs.core_events.Steps.{HasRoom}
+use Rattle.protected_loads.specs.core_events.Views.{note_of}
+use Rattle.protected_loads.specs.counter_word.Words.{ZERO}
+use Rattle.protected_loads.specs.acquire_retire.Calls.{IsSameView, Steps, same_view}
+use Rattle.protected_loads.specs.acquire_retire.Domains.{DomainState}
+use Rattle.protected_loads.specs.acquire_retire.Seats.{SeatState}
+use Rattle.protected_loads.specs.control_word.Resting.{IsAtRest}
 use Rattle.protected_loads.specs.References.{Loads, Refers, counted_as, counting, kept_by, loaded_by, with_reference}
 use Rattle.protected_loads.proofs.Noting.{written}
 use Rattle.lone_heap.specs.Lone.{IsReady, known_plain}

@@ -1,24 +1,24 @@
 -- What a settle of a seat that is alone leaves: nothing more may go.
 use Rattle.std.proofs.Common.{◌≡◌, ⊎_elim, ℕ, ◌<◌, ◌≤◌, List, [], ◌++◌, ap, sym, ◌∙◌, subst, arith}
 use Rattle.std.proofs.lemmas.Bool.{cases_lt}
-use Rattle.plain_state.specs.declared.slot.Kind.TheVariants.{Disposal}
-use Rattle.plain_state.specs.declared.slot.SlotId.{SlotId}
-use Rattle.plain_state.specs.Lists.{Entry, entry_times, times}
-use Rattle.plain_state.specs.State.{PlainSeat}
-use Rattle.plain_store.specs.Settling.{IsSettled}
+use Rattle.protected_loads.specs.plain_state.declared.slot.Kind.TheVariants.{Disposal}
+use Rattle.protected_loads.specs.plain_state.declared.slot.SlotId.{SlotId}
+use Rattle.protected_loads.specs.plain_state.Lists.{Entry, entry_times, times}
+use Rattle.protected_loads.specs.plain_state.State.{PlainSeat}
+use Rattle.plain_settling.specs.plain_store.Settling.{IsSettled}
 use Rattle.plain_settling.specs.Settling.{TidiesTo}
-use Rattle.core_events.specs.declared.view.CoreView.{CoreView}
-use Rattle.core_events.specs.declared.view.Note.{Note}
-use Rattle.core_events.specs.Runs.{Core, view_at}
-use Rattle.core_events.specs.Shows.{show_seat}
-use Rattle.core_events.specs.Steps.{HasRoom, IsIdle}
-use Rattle.core_events.specs.Views.{valid_of}
-use Rattle.core_law.proofs.Bridge.{shown_seat}
-use Rattle.acquire_retire.specs.Collecting.{rest_of}
-use Rattle.acquire_retire.specs.Domains.{DomainState}
-use Rattle.acquire_retire.specs.Seats.{SeatState}
-use Rattle.acquire_retire.specs.Wholes.{known_core}
-use Rattle.control_word.specs.Resting.{IsAtRest}
+use Rattle.protected_loads.specs.core_events.declared.view.CoreView.{CoreView}
+use Rattle.protected_loads.specs.core_events.declared.view.Note.{Note}
+use Rattle.protected_loads.specs.core_events.Runs.{Core, view_at}
+use Rattle.protected_loads.specs.core_events.Shows.{show_seat}
+use Rattle.protected_loads.specs.core_events.Steps.{HasRoom, IsIdle}
+use Rattle.protected_loads.specs.core_events.Views.{valid_of}
+use Rattle.protected_loads.proofs.Below.core_law.Bridge.{shown_seat}
+use Rattle.protected_loads.specs.acquire_retire.Collecting.{rest_of}
+use Rattle.protected_loads.specs.acquire_retire.Domains.{DomainState}
+use Rattle.protected_loads.specs.acquire_retire.Seats.{SeatState}
+use Rattle.protected_loads.specs.acquire_retire.Wholes.{known_core}
+use Rattle.protected_loads.specs.control_word.Resting.{IsAtRest}
 use Rattle.slot_store.specs.Leftovers.{IsQuiet}
 use Rattle.slot_store.specs.Settling.{Settles}
 use Rattle.slot_store.proofs.Lasting.{Lasts, collect_lasts}

@@ -1,31 +1,31 @@
 -- How a seat that is alone keeps a snapshot by a reference, and ends one.
 use Rattle.std.proofs.Common.{◌≡◌, ℕ, ◌<◌, List, [], ◌∷◌, refl, ap, sym, ◌∙◌, subst, arith}
 use Rattle.std.specs.Prelude.{Option, Some, None, slice_set}
-use Rattle.plain_state.specs.declared.act.PlainAct.TheVariants as plain
-use Rattle.plain_state.specs.declared.slot.Kind.TheVariants.{Strong, Disposal}
-use Rattle.plain_state.specs.declared.slot.SlotId.{SlotId}
-use Rattle.plain_state.specs.Lists.{entry_times}
-use Rattle.plain_state.specs.Places.{HoldsStrongly}
-use Rattle.plain_state.specs.State.{PlainSeat, seat_at}
-use Rattle.plain_state.specs.Steps.{Does}
-use Rattle.plain_state.proofs.Kit.{entry_cons, entry_none}
-use Rattle.plain_store.specs.Calls.{Gains}
-use Rattle.core_events.specs.declared.act.Act.TheVariants as act
-use Rattle.core_events.specs.declared.outcome.Outcome.{Outcome}
-use Rattle.core_events.specs.declared.outcome.Outcome.TheVariants as outcome
-use Rattle.core_events.specs.declared.view.CoreView.{CoreView}
-use Rattle.core_events.specs.declared.view.Note.{Note}
-use Rattle.core_events.specs.declared.view.Note.TheVariants as note
-use Rattle.core_events.specs.ShownSteps.{releases}
-use Rattle.core_events.specs.Steps.{HasRoom}
-use Rattle.core_events.specs.Views.{note_of, valid_of}
-use Rattle.acquire_retire.specs.Calls.{IsSameView, Steps, same_view}
-use Rattle.acquire_retire.specs.Collecting.{move}
-use Rattle.acquire_retire.specs.Domains.{DomainState}
-use Rattle.acquire_retire.specs.Seats.{SeatState}
-use Rattle.control_word.specs.Calls.{GainsStrong}
-use Rattle.control_word.specs.Resting.{IsAtRest}
-use Rattle.control_word.proofs.Gaining.{counted, up}
+use Rattle.protected_loads.specs.plain_state.declared.act.PlainAct.TheVariants as plain
+use Rattle.protected_loads.specs.plain_state.declared.slot.Kind.TheVariants.{Strong, Disposal}
+use Rattle.protected_loads.specs.plain_state.declared.slot.SlotId.{SlotId}
+use Rattle.protected_loads.specs.plain_state.Lists.{entry_times}
+use Rattle.protected_loads.specs.plain_state.Places.{HoldsStrongly}
+use Rattle.protected_loads.specs.plain_state.State.{PlainSeat, seat_at}
+use Rattle.protected_loads.specs.plain_state.Steps.{Does}
+use Rattle.protected_loads.proofs.Below.plain_state.Kit.{entry_cons, entry_none}
+use Rattle.plain_settling.specs.plain_store.Calls.{Gains}
+use Rattle.protected_loads.specs.core_events.declared.act.Act.TheVariants as act
+use Rattle.protected_loads.specs.core_events.declared.outcome.Outcome.{Outcome}
+use Rattle.protected_loads.specs.core_events.declared.outcome.Outcome.TheVariants as outcome
+use Rattle.protected_loads.specs.core_events.declared.view.CoreView.{CoreView}
+use Rattle.protected_loads.specs.core_events.declared.view.Note.{Note}
+use Rattle.protected_loads.specs.core_events.declared.view.Note.TheVariants as note
+use Rattle.protected_loads.specs.core_events.ShownSteps.{releases}
+use Rattle.protected_loads.specs.core_events.Steps.{HasRoom}
+use Rattle.protected_loads.specs.core_events.Views.{note_of, valid_of}
+use Rattle.protected_loads.specs.acquire_retire.Calls.{IsSameView, Steps, same_view}
+use Rattle.protected_loads.specs.acquire_retire.Collecting.{move}
+use Rattle.protected_loads.specs.acquire_retire.Domains.{DomainState}
+use Rattle.protected_loads.specs.acquire_retire.Seats.{SeatState}
+use Rattle.protected_loads.specs.control_word.Calls.{GainsStrong}
+use Rattle.protected_loads.specs.control_word.Resting.{IsAtRest}
+use Rattle.protected_loads.proofs.Below.control_word.Gaining.{counted, up}
 use Rattle.snapshot_ptr.proofs.Released.{released}
 use Rattle.lone_heap.specs.declared.words.Words.{Words}
 use Rattle.lone_heap.specs.Lone.{IsReady, known_plain}

@@ -1,23 +1,23 @@
 -- A step of a seat that is alone shows its plain step in the state that the seat knows.
 use Rattle.std.proofs.Common.{◌≡◌, ℕ, List, ap, sym, ◌∙◌, subst}
 use Rattle.std.specs.Prelude.{IsSome}
-use Rattle.plain_state.specs.declared.act.PlainAct.{PlainAct}
-use Rattle.plain_state.specs.State.{Plain, seat_at}
-use Rattle.plain_state.specs.Steps.{Does}
-use Rattle.plain_protocol.specs.Owns.{OwnPart}
-use Rattle.core_events.specs.declared.act.Act.{Act}
-use Rattle.core_events.specs.declared.outcome.Outcome.{Outcome}
-use Rattle.core_events.specs.declared.view.CoreView.{CoreView}
-use Rattle.core_events.specs.Good.{SeatLaw}
-use Rattle.core_events.specs.Runs.{Core}
-use Rattle.core_events.specs.Shows.{show_seat, shows}
-use Rattle.core_events.specs.ShownSteps.{shown_act, shown_number}
-use Rattle.core_law.proofs.Bridge.{shown_seat}
-use Rattle.core_law.proofs.Events.{event_shows}
-use Rattle.acquire_retire.specs.Calls.{Steps}
-use Rattle.acquire_retire.specs.Domains.{DomainState}
-use Rattle.acquire_retire.specs.Seats.{SeatState}
-use Rattle.control_word.proofs.Finding.{seat_there, sound_before}
+use Rattle.protected_loads.specs.plain_state.declared.act.PlainAct.{PlainAct}
+use Rattle.protected_loads.specs.plain_state.State.{Plain, seat_at}
+use Rattle.protected_loads.specs.plain_state.Steps.{Does}
+use Rattle.protected_loads.specs.plain_protocol.Owns.{OwnPart}
+use Rattle.protected_loads.specs.core_events.declared.act.Act.{Act}
+use Rattle.protected_loads.specs.core_events.declared.outcome.Outcome.{Outcome}
+use Rattle.protected_loads.specs.core_events.declared.view.CoreView.{CoreView}
+use Rattle.protected_loads.specs.core_events.Good.{SeatLaw}
+use Rattle.protected_loads.specs.core_events.Runs.{Core}
+use Rattle.protected_loads.specs.core_events.Shows.{show_seat, shows}
+use Rattle.protected_loads.specs.core_events.ShownSteps.{shown_act, shown_number}
+use Rattle.protected_loads.proofs.Below.core_law.Bridge.{shown_seat}
+use Rattle.protected_loads.proofs.Below.core_law.Events.{event_shows}
+use Rattle.protected_loads.specs.acquire_retire.Calls.{Steps}
+use Rattle.protected_loads.specs.acquire_retire.Domains.{DomainState}
+use Rattle.protected_loads.specs.acquire_retire.Seats.{SeatState}
+use Rattle.protected_loads.proofs.Below.control_word.Finding.{seat_there, sound_before}
 use Rattle.slot_store.proofs.Objects.{known_after, known_before}
 use Rattle.lone_heap.specs.Lone.{known_plain}
 

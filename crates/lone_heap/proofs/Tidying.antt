@@ -2,36 +2,36 @@
 use Rattle.std.proofs.Common.{◌≡◌, ⊎_elim, ℕ, ◌<◌, ◌≤◌, Bool, true, false, List, [], ◌∷◌, ◌++◌, length, refl, ap, sym, ◌∙◌, subst, arith, append_assoc}
 use Rattle.std.specs.Prelude.{◌==◌, IsSome, Option, Some, None, flat_map, if◌then◌else◌}
 use Rattle.std.proofs.lemmas.List.{length-append}
-use Rattle.plain_state.specs.declared.act.EventPlace.{EventPlace}
-use Rattle.plain_state.specs.declared.act.PlainAct.TheVariants as plain
-use Rattle.plain_state.specs.declared.slot.Kind.{Kind}
-use Rattle.plain_state.specs.declared.slot.SlotId.{SlotId}
-use Rattle.plain_state.specs.Ejection.{ejected, kept}
-use Rattle.plain_state.specs.Lists.{Entry, entry_times}
-use Rattle.plain_state.specs.State.{Plain, seat_at}
-use Rattle.plain_state.specs.Steps.{Does}
+use Rattle.protected_loads.specs.plain_state.declared.act.EventPlace.{EventPlace}
+use Rattle.protected_loads.specs.plain_state.declared.act.PlainAct.TheVariants as plain
+use Rattle.protected_loads.specs.plain_state.declared.slot.Kind.{Kind}
+use Rattle.protected_loads.specs.plain_state.declared.slot.SlotId.{SlotId}
+use Rattle.protected_loads.specs.plain_state.Ejection.{ejected, kept}
+use Rattle.protected_loads.specs.plain_state.Lists.{Entry, entry_times}
+use Rattle.protected_loads.specs.plain_state.State.{Plain, seat_at}
+use Rattle.protected_loads.specs.plain_state.Steps.{Does}
 use Rattle.plain_settling.specs.Settling.{IsSurplus, TidiesTo}
 use Rattle.plain_settling.proofs.Settling.{tidies_none, tidies_on, tidies_one}
-use Rattle.announce_slots.specs.Seen.{announced_in}
-use Rattle.counter_word.specs.Words.{has_help}
-use Rattle.core_events.specs.declared.act.Act.{Act}
-use Rattle.core_events.specs.declared.act.Act.TheVariants as act
-use Rattle.core_events.specs.declared.outcome.Outcome.{Outcome}
-use Rattle.core_events.specs.declared.view.CoreView.{CoreView}
-use Rattle.core_events.specs.declared.view.Move.{Move}
-use Rattle.core_events.specs.declared.view.Note.{Note}
-use Rattle.core_events.specs.declared.view.Phase.TheVariants as phase
-use Rattle.core_events.specs.Good.{SeatLaw}
-use Rattle.core_events.specs.ShownSteps.{ejects, on_slot}
-use Rattle.core_events.specs.Steps.{all_seen, is_last}
-use Rattle.core_events.specs.Views.{slot_of, valid_of}
-use Rattle.acquire_retire.specs.declared.payment.Payment.{Payment}
-use Rattle.acquire_retire.specs.declared.payment.Payment.TheVariants as payment
-use Rattle.acquire_retire.specs.Calls.{IsSameView, Steps, same_view}
-use Rattle.acquire_retire.specs.Collecting.{Walks, paid_by, scanned_by}
-use Rattle.acquire_retire.specs.Domains.{DomainState}
-use Rattle.acquire_retire.specs.Seats.{SeatState}
-use Rattle.retiring_stores.specs.Scanning.{Collected, IsBelow, IsDue, ScansWhereDue}
+use Rattle.protected_loads.specs.announce_slots.Seen.{announced_in}
+use Rattle.protected_loads.specs.counter_word.Words.{has_help}
+use Rattle.protected_loads.specs.core_events.declared.act.Act.{Act}
+use Rattle.protected_loads.specs.core_events.declared.act.Act.TheVariants as act
+use Rattle.protected_loads.specs.core_events.declared.outcome.Outcome.{Outcome}
+use Rattle.protected_loads.specs.core_events.declared.view.CoreView.{CoreView}
+use Rattle.protected_loads.specs.core_events.declared.view.Move.{Move}
+use Rattle.protected_loads.specs.core_events.declared.view.Note.{Note}
+use Rattle.protected_loads.specs.core_events.declared.view.Phase.TheVariants as phase
+use Rattle.protected_loads.specs.core_events.Good.{SeatLaw}
+use Rattle.protected_loads.specs.core_events.ShownSteps.{ejects, on_slot}
+use Rattle.protected_loads.specs.core_events.Steps.{all_seen, is_last}
+use Rattle.protected_loads.specs.core_events.Views.{slot_of, valid_of}
+use Rattle.protected_loads.specs.acquire_retire.declared.payment.Payment.{Payment}
+use Rattle.protected_loads.specs.acquire_retire.declared.payment.Payment.TheVariants as payment
+use Rattle.protected_loads.specs.acquire_retire.Calls.{IsSameView, Steps, same_view}
+use Rattle.protected_loads.specs.acquire_retire.Collecting.{Walks, paid_by, scanned_by}
+use Rattle.protected_loads.specs.acquire_retire.Domains.{DomainState}
+use Rattle.protected_loads.specs.acquire_retire.Seats.{SeatState}
+use Rattle.slot_store.specs.retiring_stores.Scanning.{Collected, IsBelow, IsDue, ScansWhereDue}
 use Rattle.slot_store.proofs.Objects.{known_still}
 use Rattle.slot_store.proofs.OwnNotes.{AreOwn, own_scan}
 use Rattle.slot_store.proofs.Ripening.{split_read, word_read}

@@ -2,20 +2,20 @@
 use Rattle.std.proofs.Common.{◌≡◌, ℕ, List, [], ◌∷◌, ◌++◌, refl, ap, sym, ◌∙◌, subst, append_assoc}
 use Rattle.std.specs.Prelude.{Result, Ok, Err, IfOk, OnErr}
 use Rattle.std.proofs.lemmas.List.{append-nil}
-use Rattle.plain_state.specs.declared.act.PlainAct.{PlainAct}
-use Rattle.plain_state.specs.State.{Plain}
-use Rattle.plain_protocol.specs.Owns.{OwnPart}
-use Rattle.core_events.specs.declared.act.Act.{Act}
-use Rattle.core_events.specs.declared.outcome.Outcome.{Outcome}
-use Rattle.core_events.specs.declared.view.CoreView.{CoreView}
-use Rattle.core_events.specs.declared.view.Move.{Move}
-use Rattle.core_events.specs.Steps.{answer}
-use Rattle.core_law.proofs.Trails.{changed_trail}
-use Rattle.acquire_retire.specs.Calls.{Steps}
-use Rattle.acquire_retire.specs.Collecting.{move}
-use Rattle.acquire_retire.specs.Domains.{DomainState}
-use Rattle.acquire_retire.specs.Seats.{SeatState}
-use Rattle.control_word.specs.Moves.{Becomes}
+use Rattle.protected_loads.specs.plain_state.declared.act.PlainAct.{PlainAct}
+use Rattle.protected_loads.specs.plain_state.State.{Plain}
+use Rattle.protected_loads.specs.plain_protocol.Owns.{OwnPart}
+use Rattle.protected_loads.specs.core_events.declared.act.Act.{Act}
+use Rattle.protected_loads.specs.core_events.declared.outcome.Outcome.{Outcome}
+use Rattle.protected_loads.specs.core_events.declared.view.CoreView.{CoreView}
+use Rattle.protected_loads.specs.core_events.declared.view.Move.{Move}
+use Rattle.protected_loads.specs.core_events.Steps.{answer}
+use Rattle.protected_loads.proofs.Below.core_law.Trails.{changed_trail}
+use Rattle.protected_loads.specs.acquire_retire.Calls.{Steps}
+use Rattle.protected_loads.specs.acquire_retire.Collecting.{move}
+use Rattle.protected_loads.specs.acquire_retire.Domains.{DomainState}
+use Rattle.protected_loads.specs.acquire_retire.Seats.{SeatState}
+use Rattle.protected_loads.specs.control_word.Moves.{Becomes}
 use Rattle.lone_heap.specs.Trails.{Shows, StandIn}
 
 -- all of them stand among themselves

@@ -1,14 +1,14 @@
 -- Plain steps that change nothing but what the seat has.
 use Rattle.std.proofs.Common.{◌≡◌, ⊎_elim, ℕ, ◌<◌, List, length, ap, sym, ◌∙◌, Some}
 use Rattle.std.proofs.lemmas.List.{get_or-set_same, set-get_or, set-set}
-use Rattle.plain_state.specs.declared.act.EventPlace.{EventPlace}
-use Rattle.plain_state.specs.declared.act.PlainAct.TheVariants as plain
-use Rattle.plain_state.specs.declared.slot.Kind.{Kind}
-use Rattle.plain_state.specs.declared.slot.SlotId.{SlotId}
-use Rattle.plain_state.specs.Lists.{Entry, Gains}
-use Rattle.plain_state.specs.Places.{content, place_kind}
-use Rattle.plain_state.specs.State.{Plain, PlainSeat, new_seat, seat_at, with_seat}
-use Rattle.plain_state.specs.Steps.{Does}
+use Rattle.protected_loads.specs.plain_state.declared.act.EventPlace.{EventPlace}
+use Rattle.protected_loads.specs.plain_state.declared.act.PlainAct.TheVariants as plain
+use Rattle.protected_loads.specs.plain_state.declared.slot.Kind.{Kind}
+use Rattle.protected_loads.specs.plain_state.declared.slot.SlotId.{SlotId}
+use Rattle.protected_loads.specs.plain_state.Lists.{Entry, Gains}
+use Rattle.protected_loads.specs.plain_state.Places.{content, place_kind}
+use Rattle.protected_loads.specs.plain_state.State.{Plain, PlainSeat, new_seat, seat_at, with_seat}
+use Rattle.protected_loads.specs.plain_state.Steps.{Does}
 
 -- q is p, but for what the seat has
 abbrev pub Writes : Plain → Plain → Type 0

@@ -1,18 +1,18 @@
 -- A seat that is alone in its domain, and the plain state that it knows.
 use Rattle.std.specs.Prelude.{◌≡◌, IsSome}
-use Rattle.plain_state.specs.declared.slot.Kind.TheVariants.{Disposal}
-use Rattle.plain_state.specs.declared.slot.SlotId.{SlotId}
-use Rattle.plain_state.specs.Lists.{entry_times}
-use Rattle.plain_state.specs.State.{Plain, seat_at}
+use Rattle.protected_loads.specs.plain_state.declared.slot.Kind.TheVariants.{Disposal}
+use Rattle.protected_loads.specs.plain_state.declared.slot.SlotId.{SlotId}
+use Rattle.protected_loads.specs.plain_state.Lists.{entry_times}
+use Rattle.protected_loads.specs.plain_state.State.{Plain, seat_at}
 use Rattle.plain_settling.specs.Settling.{TidiesTo}
-use Rattle.core_events.specs.Shows.{show_seat, shows}
-use Rattle.core_events.specs.Steps.{HasRoom}
-use Rattle.core_events.specs.Views.{snapshots}
-use Rattle.domain_rule.specs.Views.{IsAlone}
-use Rattle.acquire_retire.specs.Domains.{DomainState}
-use Rattle.acquire_retire.specs.Seats.{SeatState}
-use Rattle.acquire_retire.specs.Wholes.{known_core}
-use Rattle.control_word.specs.Resting.{IsAtRest}
+use Rattle.protected_loads.specs.core_events.Shows.{show_seat, shows}
+use Rattle.protected_loads.specs.core_events.Steps.{HasRoom}
+use Rattle.protected_loads.specs.core_events.Views.{snapshots}
+use Rattle.protected_loads.specs.domain_rule.Views.{IsAlone}
+use Rattle.protected_loads.specs.acquire_retire.Domains.{DomainState}
+use Rattle.protected_loads.specs.acquire_retire.Seats.{SeatState}
+use Rattle.protected_loads.specs.acquire_retire.Wholes.{known_core}
+use Rattle.protected_loads.specs.control_word.Resting.{IsAtRest}
 
 -- the plain state that the domain shows, as the seat knows it
 abbrev pub known_plain : {P V : Type 0} → DomainState P → SeatState V → Plain

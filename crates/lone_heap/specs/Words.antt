@@ -1,10 +1,10 @@
 -- What the announcement words of a seat protect, as its notes say it.
 use Rattle.std.specs.Prelude.{◌≡◌, List, [], ◌∷◌, Option, Some, None}
-use Rattle.plain_state.specs.declared.slot.Kind.TheVariants.{Strong}
-use Rattle.plain_state.specs.declared.slot.SlotId.{SlotId}
-use Rattle.core_events.specs.declared.view.Note.{Note}
-use Rattle.core_events.specs.declared.view.Note.TheVariants as note
-use Rattle.acquire_retire.specs.Seats.{SeatState}
+use Rattle.protected_loads.specs.plain_state.declared.slot.Kind.TheVariants.{Strong}
+use Rattle.protected_loads.specs.plain_state.declared.slot.SlotId.{SlotId}
+use Rattle.protected_loads.specs.core_events.declared.view.Note.{Note}
+use Rattle.protected_loads.specs.core_events.declared.view.Note.TheVariants as note
+use Rattle.protected_loads.specs.acquire_retire.Seats.{SeatState}
 use Rattle.lone_heap.specs.declared.words.Words.{Words}
 
 abbrev pub note_for : Option SlotId → Note

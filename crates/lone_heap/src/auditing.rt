@@ -1,16 +1,14 @@
 //! The audit of a seat that is alone.
 ghost use Rattle.std.specs.Prelude.{◌≡◌, [], IfOk, length};
-ghost use Rattle.plain_store.specs.Settling.{IsSettled};
-ghost use Rattle.plain_audit.specs.Audits.{IsAudit};
-ghost use Rattle.deleter.specs.Weighing.{Weighs};
+ghost use Rattle.plain_settling.specs.plain_store.Settling.{IsSettled};
+ghost use Rattle.domain_audit.specs.plain_audit.Audits.{IsAudit};
+ghost use Rattle.slot_store.specs.deleter.Weighing.{Weighs};
 ghost use Rattle.lone_heap.specs.Lone.{IsReady, known_plain};
 ghost use Rattle.lone_heap.specs.Trails.{Shows};
 
-use acquire_retire::{Domain, Seat};
-use deleter::Deleter;
 use domain_audit::{Audit, audit_domain};
-use out_of_memory::OutOfMemory;
-use plain_protocol::Protocol;
+use protected_loads::{Domain, OutOfMemory, Protocol, Seat};
+use slot_store::Deleter;
 use std::alloc::Global;
 
 /// What lives, waits and lies in cycles, in a state in which nothing more may go, which doesn't change. `rank` has a

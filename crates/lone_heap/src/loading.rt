@@ -1,17 +1,16 @@
 //! References to what places hold.
 ghost use Rattle.std.specs.Prelude.{◌≡◌, ◌↔◌, [], IfOk, IsErr, OnErr};
-ghost use Rattle.plain_state.specs.declared.slot.Kind.TheVariants as kind;
-ghost use Rattle.plain_state.specs.Places.{IsOpen, place_kind};
-ghost use Rattle.plain_store.specs.Calls.{Loads, WeaklyLoads};
-ghost use Rattle.control_word.specs.Resting.{IsSpent};
+ghost use Rattle.protected_loads.specs.plain_state.declared.slot.Kind.TheVariants as kind;
+ghost use Rattle.protected_loads.specs.plain_state.Places.{IsOpen, place_kind};
+ghost use Rattle.plain_settling.specs.plain_store.Calls.{Loads, WeaklyLoads};
+ghost use Rattle.protected_loads.specs.control_word.Resting.{IsSpent};
 ghost use Rattle.lone_heap.specs.Lone.{IsReady, known_plain};
 ghost use Rattle.lone_heap.specs.Trails.{Shows};
 
-use acquire_retire::{Domain, EventPlace, Seat, SlotId};
-use counted_handles::{LoadError, Spent};
-use plain_protocol::{AnyStep, NoLaw};
-use plain_state::PayloadKind;
-use protected_loads::try_load;
+use protected_loads::{
+    AnyStep, Domain, LoadError, NoLaw, PayloadKind, Seat, SlotId, Spent, try_load,
+};
+use slot_store::EventPlace;
 
 /// One more reference to what the place holds, of the place's kind, or None where it holds null. The place doesn't
 /// change meanwhile, since the seat is alone. `Spent` exactly where the seat has used all adds of its quota, and then

@@ -1,17 +1,15 @@
 //! A seat that is alone makes an object.
 ghost use Rattle.std.specs.Prelude.{◌≡◌, ◌↔◌, Err, IfOk};
-ghost use Rattle.plain_store.specs.Heaps.{Makes, NoneFree};
-ghost use Rattle.control_word.specs.Resting.{IsSpent};
+ghost use Rattle.plain_settling.specs.plain_store.Heaps.{Makes, NoneFree};
+ghost use Rattle.protected_loads.specs.control_word.Resting.{IsSpent};
 ghost use Rattle.slot_store.specs.Calls.{HasNoMake};
 ghost use Rattle.slot_store.specs.declared.making.MakeError.TheVariants as refused;
 ghost use Rattle.lone_heap.specs.Lone.{IsReady, known_plain};
 ghost use Rattle.lone_heap.specs.Trails.{Shows, started_by};
 
-use acquire_retire::{Domain, Seat};
-use counted_handles::Strong;
-use plain_protocol::{AnyStep, NoLaw};
-use plain_state::PayloadKind;
+use protected_loads::{AnyStep, Domain, NoLaw, PayloadKind, Seat};
 use slot_store::MakeError;
+use snapshot_ptr::Strong;
 
 /// A new object with this payload, and a reference to it that the seat owns. `MakesSpent` comes first, exactly where
 /// the seat has no make left, then `AddsSpent`, exactly where it has no add left; nothing has changed then. `Full`

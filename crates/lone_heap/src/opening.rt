@@ -1,15 +1,14 @@
 //! A domain of one seat is opened.
 ghost use Rattle.std.specs.Prelude.{◌≡◌, ◌≤◌, [], IfOk};
-ghost use Rattle.plain_state.specs.Limits.{most_cells, most_slots, most_weak_cells};
-ghost use Rattle.plain_state.specs.State.{empty};
+ghost use Rattle.protected_loads.specs.plain_state.Limits.{most_cells, most_slots, most_weak_cells};
+ghost use Rattle.protected_loads.specs.plain_state.State.{empty};
 ghost use Rattle.lone_heap.specs.Lone.{IsReady, known_plain};
 ghost use Rattle.lone_heap.specs.Words.{AreNoted};
 
 use crate::words::Words;
-use acquire_retire::{Domain, OpenError, Quota, Seat, Shape, open_domain};
-use out_of_memory::OutOfMemory;
-use plain_protocol::NoLaw;
-use plain_state::PayloadKind;
+use protected_loads::{
+    Domain, NoLaw, OpenError, OutOfMemory, PayloadKind, Quota, Seat, Shape, open_domain,
+};
 use std::alloc::Global;
 
 /// How many retired entries the seat keeps before it scans, beside one for each announcement word.

@@ -1,17 +1,16 @@
 //! What a seat that is alone puts into places.
 ghost use Rattle.std.specs.Prelude.{◌≡◌, [], IfSome};
-ghost use Rattle.plain_state.specs.Places.{Holds, IsOpen, place_kind};
-ghost use Rattle.plain_state.specs.State.{seat_at};
-ghost use Rattle.plain_store.specs.Calls.{MayGive, Puts, Tries};
-ghost use Rattle.core_events.specs.Steps.{IsContent};
+ghost use Rattle.protected_loads.specs.plain_state.Places.{Holds, IsOpen, place_kind};
+ghost use Rattle.protected_loads.specs.plain_state.State.{seat_at};
+ghost use Rattle.plain_settling.specs.plain_store.Calls.{MayGive, Puts, Tries};
+ghost use Rattle.protected_loads.specs.core_events.Steps.{IsContent};
 ghost use Rattle.lone_heap.specs.Lone.{IsReady, ThenTidies, known_plain};
 ghost use Rattle.lone_heap.specs.Trails.{Shows, ShowsPut, ShowsTry};
 
 use crate::telling::read;
-use acquire_retire::{Domain, EventPlace, Seat, SlotId};
-use plain_protocol::{AnyStep, NoLaw, Protocol};
-use plain_state::PayloadKind;
-use retiring_stores::{compare_exchange, exchange};
+use protected_loads::{AnyStep, Domain, NoLaw, PayloadKind, Protocol, Seat, SlotId};
+use slot_store::EventPlace;
+use snapshot_ptr::{compare_exchange, exchange};
 
 /// The place holds the new slot, of whose references the seat gives up one, or null. What it held is deferred, and
 /// where so many entries are that a scan is due some may go at once. One step, and a collect where one is due.

@@ -1,19 +1,19 @@
 //! References of a seat that is alone: one more, and one fewer.
 ghost use Rattle.std.specs.Prelude.{◌≡◌, ◌↔◌, [], IfOk, IsErr, OnErr, OnOk, Err};
-ghost use Rattle.plain_state.specs.declared.act.PlainAct.TheVariants as act;
-ghost use Rattle.plain_state.specs.Steps.{Does};
-ghost use Rattle.plain_store.specs.Calls.{Gains, WeaklyGains};
-ghost use Rattle.plain_store.specs.Heaps.{Owns, OwnsWeakly};
-ghost use Rattle.control_word.specs.Resting.{IsSpent};
-ghost use Rattle.control_word.specs.declared.upgrading.UpgradeError.TheVariants as refused;
+ghost use Rattle.protected_loads.specs.plain_state.declared.act.PlainAct.TheVariants as act;
+ghost use Rattle.protected_loads.specs.plain_state.Steps.{Does};
+ghost use Rattle.plain_settling.specs.plain_store.Calls.{Gains, WeaklyGains};
+ghost use Rattle.plain_settling.specs.plain_store.Heaps.{Owns, OwnsWeakly};
+ghost use Rattle.protected_loads.specs.control_word.Resting.{IsSpent};
+ghost use Rattle.protected_loads.specs.control_word.declared.upgrading.UpgradeError.TheVariants as refused;
 ghost use Rattle.lone_heap.specs.Lone.{IsReady, ThenTidies, known_plain};
 ghost use Rattle.lone_heap.specs.Trails.{Shows, found_ended, upgraded};
 
-use acquire_retire::{Domain, Seat};
-use control_word::{UpgradeError, copy_strong, copy_weak, drop_strong, drop_weak, upgrade, weaken};
-use counted_handles::{Spent, Strong, Weak};
-use plain_protocol::{AnyStep, NoLaw, Protocol};
-use plain_state::PayloadKind;
+use protected_loads::{
+    AnyStep, Domain, NoLaw, PayloadKind, Protocol, Seat, Spent, UpgradeError, Weak, copy_strong,
+    copy_weak, drop_strong, drop_weak, upgrade, weaken,
+};
+use snapshot_ptr::Strong;
 
 /// One more owned reference to the object of one that the seat owns. `Spent` exactly where the seat has used all adds
 /// of its quota, and then nothing has changed. One step.

@@ -1,15 +1,13 @@
 //! A seat that is alone settles.
 ghost use Rattle.std.specs.Prelude.{◌≡◌, []};
 ghost use Rattle.plain_settling.specs.Settling.{TidiesTo};
-ghost use Rattle.plain_store.specs.Settling.{IsSettled};
-ghost use Rattle.deleter.specs.Weighing.{Weighs};
+ghost use Rattle.plain_settling.specs.plain_store.Settling.{IsSettled};
+ghost use Rattle.slot_store.specs.deleter.Weighing.{Weighs};
 ghost use Rattle.lone_heap.specs.Lone.{IsReady, known_plain};
 ghost use Rattle.lone_heap.specs.Trails.{Shows};
 
-use acquire_retire::{Domain, Seat};
-use deleter::Deleter;
-use plain_protocol::Protocol;
-use slot_store::settle;
+use protected_loads::{Domain, Protocol, Seat};
+use slot_store::{Deleter, settle};
 
 /// Ejects, ends and destroys until nothing more may go, and answers the weights of what it destroyed, added up. The
 /// cost is that of `slot_store::settle`.

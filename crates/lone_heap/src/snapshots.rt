@@ -1,29 +1,29 @@
 //! Snapshots of a seat that is alone: taken, kept by a reference, and ended.
 ghost use Rattle.std.specs.Prelude.{◌≡◌, ◌<◌, ◌↔◌, [], IfNone, IfOk, IfSome, IsErr, None, OnErr, Some, slice_set};
-ghost use Rattle.plain_state.specs.Limits.{words_of_seat};
-ghost use Rattle.plain_state.specs.declared.act.PlainAct.TheVariants as act;
-ghost use Rattle.plain_state.specs.declared.slot.Kind.TheVariants as kind;
-ghost use Rattle.plain_state.specs.Lists.{entry_times};
-ghost use Rattle.plain_state.specs.Places.{HoldsStrongly, IsOpen, place_kind};
-ghost use Rattle.plain_state.specs.State.{seat_at};
-ghost use Rattle.plain_state.specs.Steps.{Does};
-ghost use Rattle.plain_store.specs.Calls.{Gains};
+ghost use Rattle.protected_loads.specs.plain_state.Limits.{words_of_seat};
+ghost use Rattle.protected_loads.specs.plain_state.declared.act.PlainAct.TheVariants as act;
+ghost use Rattle.protected_loads.specs.plain_state.declared.slot.Kind.TheVariants as kind;
+ghost use Rattle.protected_loads.specs.plain_state.Lists.{entry_times};
+ghost use Rattle.protected_loads.specs.plain_state.Places.{HoldsStrongly, IsOpen, place_kind};
+ghost use Rattle.protected_loads.specs.plain_state.State.{seat_at};
+ghost use Rattle.protected_loads.specs.plain_state.Steps.{Does};
+ghost use Rattle.plain_settling.specs.plain_store.Calls.{Gains};
 ghost use Rattle.plain_settling.specs.Snapshots.{FindsNone, IsProtected, Takes};
-ghost use Rattle.core_events.specs.declared.view.Note.TheVariants as stands;
-ghost use Rattle.core_events.specs.Views.{note_of};
-ghost use Rattle.acquire_retire.specs.Notes.{least_free};
-ghost use Rattle.control_word.specs.Resting.{IsSpent};
+ghost use Rattle.protected_loads.specs.core_events.declared.view.Note.TheVariants as stands;
+ghost use Rattle.protected_loads.specs.core_events.Views.{note_of};
+ghost use Rattle.protected_loads.specs.acquire_retire.Notes.{least_free};
+ghost use Rattle.protected_loads.specs.control_word.Resting.{IsSpent};
 ghost use Rattle.lone_heap.specs.Lone.{IsReady, known_plain};
 ghost use Rattle.lone_heap.specs.Trails.{Shows};
 ghost use Rattle.lone_heap.specs.Words.{AreNoted, note_for};
 
 use crate::loading::load;
 use crate::words::Words;
-use acquire_retire::{Domain, EventPlace, Seat, SlotId};
-use counted_handles::{Spent, Strong};
-use plain_protocol::{AnyStep, NoLaw, Protocol, Still};
-use plain_state::PayloadKind;
-use protected_loads::acquire;
+use protected_loads::{
+    AnyStep, Domain, NoLaw, PayloadKind, Protocol, Seat, SlotId, Spent, Still, acquire,
+};
+use slot_store::EventPlace;
+use snapshot_ptr::Strong;
 
 /// A snapshot of what the strong place holds: its slot, and whether it is counted; or None where the place holds null.
 /// It takes the least of the words 1 to 3 that protects nothing. Where all three are in use it is counted, and holds a

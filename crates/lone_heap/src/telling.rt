@@ -1,17 +1,16 @@
 //! What a seat that is alone is told of an object: a word, and how many references there are.
 ghost use Rattle.std.specs.Prelude.{◌≡◌, ◌<◌, [], slice_index};
-ghost use Rattle.plain_state.specs.Limits.{words_of_payload};
-ghost use Rattle.plain_state.specs.Places.{Holds};
-ghost use Rattle.plain_state.specs.References.{strong_refs, weak_refs};
-ghost use Rattle.plain_state.specs.State.{seat_at, slot_at};
-ghost use Rattle.plain_store.specs.Settling.{IsSettled};
+ghost use Rattle.protected_loads.specs.plain_state.Limits.{words_of_payload};
+ghost use Rattle.protected_loads.specs.plain_state.Places.{Holds};
+ghost use Rattle.protected_loads.specs.plain_state.References.{strong_refs, weak_refs};
+ghost use Rattle.protected_loads.specs.plain_state.State.{seat_at, slot_at};
+ghost use Rattle.plain_settling.specs.plain_store.Settling.{IsSettled};
 ghost use Rattle.lone_heap.specs.Lone.{IsReady, known_plain};
 ghost use Rattle.lone_heap.specs.Trails.{Shows, counted};
 
-use acquire_retire::{Domain, Seat, SlotId};
-use control_word::{strong_count, weak_count};
-use plain_protocol::{AnyStep, NoLaw, Protocol};
-use plain_state::PayloadKind;
+use protected_loads::{
+    AnyStep, Domain, NoLaw, PayloadKind, Protocol, Seat, SlotId, strong_count, weak_count,
+};
 
 /// A word of the payload of a slot that the seat holds, which is one of the domain's. One step, which changes nothing.
 pub fn read<P: Protocol>(domain: &Domain<P>, seat: &mut Seat<P>, slot: SlotId, word: u32) -> u64

@@ -1,8 +1,8 @@
 //! Which slots the announcement words of a seat protect.
 ghost use Rattle.std.specs.Prelude.{◌≡◌, ◌↔◌, IsTrue, Some};
-ghost use Rattle.plain_state.specs.Limits.{words_of_seat};
+ghost use Rattle.protected_loads.specs.plain_state.Limits.{words_of_seat};
 
-use plain_state::SlotId;
+use protected_loads::SlotId;
 
 /// What each of a seat's announcement words 1 to 3 protects: the slot of a strong snapshot, or nothing.
 #[derive(Clone, Copy, Debug, Drop)]
@@ -24,10 +24,10 @@ fn protects(word: Option<SlotId>, slot: SlotId) -> bool
 
 impl Words {
     ghost use Rattle.std.specs.Prelude.{◌≡◌, ◌<◌, slice_index_or, slice_set};
-    ghost use Rattle.plain_state.specs.declared.slot.Kind.TheVariants.{Strong};
-    ghost use Rattle.plain_state.specs.Lists.{entry_times};
-    ghost use Rattle.core_events.specs.declared.view.Note.TheVariants as note;
-    ghost use Rattle.core_events.specs.Views.{no_notes, valid_of};
+    ghost use Rattle.protected_loads.specs.plain_state.declared.slot.Kind.TheVariants.{Strong};
+    ghost use Rattle.protected_loads.specs.plain_state.Lists.{entry_times};
+    ghost use Rattle.protected_loads.specs.core_events.declared.view.Note.TheVariants as note;
+    ghost use Rattle.protected_loads.specs.core_events.Views.{no_notes, valid_of};
     ghost use Rattle.lone_heap.specs.Words.{note_for, notes_for};
 
     /// Words that protect nothing.

@@ -1,29 +1,29 @@
 -- What a call leaves of a client's view beside a part.
 use Rattle.std.proofs.Common.{◌≡◌, ℕ, List, refl, ap, sym, ◌∙◌}
 use Rattle.std.specs.Prelude.{Err, IfErr, IfOk, Ok, OnErr, Option, Result, Some, None}
-use Rattle.plain_state.specs.declared.act.EventPlace.{EventPlace}
-use Rattle.plain_state.specs.declared.act.PlainAct.{PlainAct}
-use Rattle.plain_state.specs.declared.slot.SlotId.{SlotId}
-use Rattle.plain_state.specs.State.{Plain}
-use Rattle.plain_protocol.specs.Owns.{OwnPart}
-use Rattle.core_events.specs.declared.act.Act.{Act}
-use Rattle.core_events.specs.declared.outcome.Outcome.{Outcome}
-use Rattle.core_events.specs.declared.view.Move.{Move}
-use Rattle.core_events.specs.Words.{slot_in}
-use Rattle.counted_handles.specs.Handles.{Handle}
-use Rattle.counted_handles.specs.declared.refusal.LoadError.{LoadError}
-use Rattle.counted_handles.specs.declared.refusal.LoadError.TheVariants as unloaded
-use Rattle.acquire_retire.specs.Calls.{Steps}
+use Rattle.control_word.specs.plain_state.declared.act.EventPlace.{EventPlace}
+use Rattle.control_word.specs.plain_state.declared.act.PlainAct.{PlainAct}
+use Rattle.control_word.specs.plain_state.declared.slot.SlotId.{SlotId}
+use Rattle.control_word.specs.plain_state.State.{Plain}
+use Rattle.control_word.specs.plain_protocol.Owns.{OwnPart}
+use Rattle.control_word.specs.core_events.declared.act.Act.{Act}
+use Rattle.control_word.specs.core_events.declared.outcome.Outcome.{Outcome}
+use Rattle.control_word.specs.core_events.declared.view.Move.{Move}
+use Rattle.control_word.specs.core_events.Words.{slot_in}
+use Rattle.control_word.specs.counted_handles.Handles.{Handle}
+use Rattle.control_word.specs.counted_handles.declared.refusal.LoadError.{LoadError}
+use Rattle.control_word.specs.counted_handles.declared.refusal.LoadError.TheVariants as unloaded
+use Rattle.control_word.specs.acquire_retire.Calls.{Steps}
 use Rattle.atomic_shared.specs.Places.{named}
 use Rattle.atomic_shared.specs.declared.storing.Lost.{Lost}
-use Rattle.acquire_retire.specs.Domains.{DomainState}
-use Rattle.acquire_retire.specs.Seats.{SeatState}
+use Rattle.control_word.specs.acquire_retire.Domains.{DomainState}
+use Rattle.control_word.specs.acquire_retire.Seats.{SeatState}
 use Rattle.control_word.specs.Resting.{IsAtRest}
-use Rattle.protected_loads.specs.Loads.{Misses}
-use Rattle.protected_loads.specs.References.{Loads}
-use Rattle.protected_loads.proofs.Learning.{client_found, client_moved, client_null}
-use Rattle.protocol_pairs.specs.Parts.{PutsBack, PutsOver}
-use Rattle.retiring_stores.specs.Exchanging.{Exchanges, LosesTo, Replaces}
+use Rattle.atomic_shared.specs.protected_loads.Loads.{Misses}
+use Rattle.atomic_shared.specs.protected_loads.References.{Loads}
+use Rattle.atomic_shared.proofs.Below.protected_loads.Learning.{client_found, client_moved, client_null}
+use Rattle.slot_store.specs.protocol_pairs.Parts.{PutsBack, PutsOver}
+use Rattle.atomic_shared.specs.retiring_stores.Exchanging.{Exchanges, LosesTo, Replaces}
 use Rattle.slot_store.specs.Calls.{Makes}
 use Rattle.part_calls.specs.Parts.{HasBeside, StaysBeside}
 use Rattle.part_calls.proofs.Seen.{lifted_next}

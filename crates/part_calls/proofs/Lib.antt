@@ -1,3 +1,4 @@
+pub mod Below
 pub mod Seen
 pub mod SeenCalls
 pub mod Beside

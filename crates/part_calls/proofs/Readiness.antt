@@ -1,27 +1,27 @@
 -- A deed of a part that is ready, and whose next views the rest accepts, is ready in the whole.
 use Rattle.std.proofs.Common.{◌≡◌, ℕ, Bool, true, false, List, ap, sym, subst}
 use Rattle.std.specs.Prelude.{Option, Some, None, if◌then◌else◌}
-use Rattle.plain_state.specs.declared.act.EventPlace.{EventPlace}
-use Rattle.plain_state.specs.declared.act.PlainAct.{PlainAct}
-use Rattle.plain_state.specs.declared.act.PlainAct.TheVariants as plain
-use Rattle.plain_state.specs.declared.slot.SlotId.{SlotId}
-use Rattle.plain_protocol.specs.Acts.{Owned}
-use Rattle.plain_protocol.specs.Owns.{HasSlot, OwnPart}
-use Rattle.core_events.specs.declared.act.Act.TheVariants as act
-use Rattle.core_events.specs.declared.view.CoreView.{CoreView}
-use Rattle.core_events.specs.declared.view.Phase.{Phase}
-use Rattle.core_events.specs.declared.view.Phase.TheVariants as phase
-use Rattle.core_events.specs.Shows.{show_seat}
-use Rattle.core_events.specs.ShownSteps.{is_ripe_field, on_slot}
-use Rattle.core_events.specs.Views.{slot_of}
-use Rattle.domain_rule.specs.Views.{object_in, own_of}
-use Rattle.domain_rule.proofs.Others.{fills_has}
-use Rattle.acquire_retire.specs.Calls.{IsReady}
-use Rattle.acquire_retire.specs.Domains.{DomainState}
-use Rattle.acquire_retire.specs.Seats.{SeatState}
-use Rattle.protected_loads.specs.References.{IsReadyToLoad}
-use Rattle.protocol_pairs.specs.Parts.{Accepts, Frees}
-use Rattle.protocol_pairs.specs.Spared.{HasOneOf, HasPlace, IsWithin}
+use Rattle.control_word.specs.plain_state.declared.act.EventPlace.{EventPlace}
+use Rattle.control_word.specs.plain_state.declared.act.PlainAct.{PlainAct}
+use Rattle.control_word.specs.plain_state.declared.act.PlainAct.TheVariants as plain
+use Rattle.control_word.specs.plain_state.declared.slot.SlotId.{SlotId}
+use Rattle.control_word.specs.plain_protocol.Acts.{Owned}
+use Rattle.control_word.specs.plain_protocol.Owns.{HasSlot, OwnPart}
+use Rattle.control_word.specs.core_events.declared.act.Act.TheVariants as act
+use Rattle.control_word.specs.core_events.declared.view.CoreView.{CoreView}
+use Rattle.control_word.specs.core_events.declared.view.Phase.{Phase}
+use Rattle.control_word.specs.core_events.declared.view.Phase.TheVariants as phase
+use Rattle.control_word.specs.core_events.Shows.{show_seat}
+use Rattle.control_word.specs.core_events.ShownSteps.{is_ripe_field, on_slot}
+use Rattle.control_word.specs.core_events.Views.{slot_of}
+use Rattle.control_word.specs.domain_rule.Views.{object_in, own_of}
+use Rattle.control_word.proofs.Below.domain_rule.Others.{fills_has}
+use Rattle.control_word.specs.acquire_retire.Calls.{IsReady}
+use Rattle.control_word.specs.acquire_retire.Domains.{DomainState}
+use Rattle.control_word.specs.acquire_retire.Seats.{SeatState}
+use Rattle.atomic_shared.specs.protected_loads.References.{IsReadyToLoad}
+use Rattle.slot_store.specs.protocol_pairs.Parts.{Accepts, Frees}
+use Rattle.slot_store.specs.protocol_pairs.Spared.{HasOneOf, HasPlace, IsWithin}
 use Rattle.slot_store.specs.Calls.{IsReadyToMake}
 use Rattle.part_calls.specs.Parts.{AcceptsAll, as_part, seen_by}
 use Rattle.part_calls.proofs.SeenCalls.{announces_seen, begins_seen}

@@ -1,28 +1,28 @@
 -- What is told of a step is told of it as a part sees it.
 use Rattle.std.proofs.Common.{◌≡◌, ℕ, List, [], ◌∷◌, refl, ap, ◌∙◌}
-use Rattle.plain_state.specs.declared.act.PlainAct.{PlainAct}
-use Rattle.plain_state.specs.State.{Plain}
-use Rattle.plain_protocol.specs.Owns.{OwnPart}
-use Rattle.core_events.specs.declared.act.Act.{Act}
-use Rattle.core_events.specs.declared.outcome.Outcome.{Outcome}
-use Rattle.core_events.specs.declared.shape.Shape.{Shape}
-use Rattle.core_events.specs.declared.view.CoreView.{CoreView}
-use Rattle.core_events.specs.declared.view.Move.{Move}
-use Rattle.core_events.specs.Runs.{Core, after}
-use Rattle.core_events.specs.Shows.{shows}
-use Rattle.core_events.specs.ShownSteps.{shown_act, shown_number}
-use Rattle.core_events.specs.Views.{Terms}
-use Rattle.domain_rule.specs.declared.view.SeatView.{SeatView}
-use Rattle.domain_rule.specs.Rule.{IsTrueOf}
-use Rattle.domain_rule.specs.Told.{Told}
-use Rattle.domain_rule.specs.Views.{own_of}
-use Rattle.acquire_retire.specs.Calls.{IsSameView, Steps, same_view}
-use Rattle.acquire_retire.specs.Collecting.{WalksBy}
-use Rattle.acquire_retire.specs.Domains.{DomainState}
-use Rattle.acquire_retire.specs.Seats.{SeatState}
+use Rattle.control_word.specs.plain_state.declared.act.PlainAct.{PlainAct}
+use Rattle.control_word.specs.plain_state.State.{Plain}
+use Rattle.control_word.specs.plain_protocol.Owns.{OwnPart}
+use Rattle.control_word.specs.core_events.declared.act.Act.{Act}
+use Rattle.control_word.specs.core_events.declared.outcome.Outcome.{Outcome}
+use Rattle.control_word.specs.core_events.declared.shape.Shape.{Shape}
+use Rattle.control_word.specs.core_events.declared.view.CoreView.{CoreView}
+use Rattle.control_word.specs.core_events.declared.view.Move.{Move}
+use Rattle.control_word.specs.core_events.Runs.{Core, after}
+use Rattle.control_word.specs.core_events.Shows.{shows}
+use Rattle.control_word.specs.core_events.ShownSteps.{shown_act, shown_number}
+use Rattle.control_word.specs.core_events.Views.{Terms}
+use Rattle.control_word.specs.domain_rule.declared.view.SeatView.{SeatView}
+use Rattle.control_word.specs.domain_rule.Rule.{IsTrueOf}
+use Rattle.control_word.specs.domain_rule.Told.{Told}
+use Rattle.control_word.specs.domain_rule.Views.{own_of}
+use Rattle.control_word.specs.acquire_retire.Calls.{IsSameView, Steps, same_view}
+use Rattle.control_word.specs.acquire_retire.Collecting.{WalksBy}
+use Rattle.control_word.specs.acquire_retire.Domains.{DomainState}
+use Rattle.control_word.specs.acquire_retire.Seats.{SeatState}
 use Rattle.control_word.specs.Moves.{Becomes}
 use Rattle.control_word.specs.Resting.{IsAtRest}
-use Rattle.protocol_pairs.specs.Parts.{Reads}
+use Rattle.slot_store.specs.protocol_pairs.Parts.{Reads}
 use Rattle.part_calls.specs.Parts.{as_part, seen_by, view_seen}
 
 -- a deed of the whole is, as the part sees it, this one

@@ -1,24 +1,24 @@
 -- What calls do they do as a part sees them.
 use Rattle.std.proofs.Common.{◌≡◌, inl, inr, ⊎_elim, ℕ, List, ap}
 use Rattle.std.specs.Prelude.{Err, IfErr, Ok, Option, Result, Some, None}
-use Rattle.plain_state.specs.declared.act.EventPlace.{EventPlace}
-use Rattle.plain_state.specs.declared.act.PlainAct.{PlainAct}
-use Rattle.plain_state.specs.declared.slot.SlotId.{SlotId}
-use Rattle.plain_state.specs.State.{Plain}
-use Rattle.plain_protocol.specs.Owns.{OwnPart}
-use Rattle.core_events.specs.declared.view.CoreView.{CoreView}
-use Rattle.core_events.specs.declared.view.Move.{Move}
-use Rattle.acquire_retire.specs.Calls.{IsSameView, same_view}
-use Rattle.acquire_retire.specs.declared.payment.Work.{Work}
-use Rattle.acquire_retire.specs.Collecting.{Collects, Goes as GoesOn}
-use Rattle.acquire_retire.specs.Domains.{DomainState}
-use Rattle.acquire_retire.specs.Seats.{SeatState}
+use Rattle.control_word.specs.plain_state.declared.act.EventPlace.{EventPlace}
+use Rattle.control_word.specs.plain_state.declared.act.PlainAct.{PlainAct}
+use Rattle.control_word.specs.plain_state.declared.slot.SlotId.{SlotId}
+use Rattle.control_word.specs.plain_state.State.{Plain}
+use Rattle.control_word.specs.plain_protocol.Owns.{OwnPart}
+use Rattle.control_word.specs.core_events.declared.view.CoreView.{CoreView}
+use Rattle.control_word.specs.core_events.declared.view.Move.{Move}
+use Rattle.control_word.specs.acquire_retire.Calls.{IsSameView, same_view}
+use Rattle.control_word.specs.acquire_retire.declared.payment.Work.{Work}
+use Rattle.control_word.specs.acquire_retire.Collecting.{Collects, Goes as GoesOn}
+use Rattle.control_word.specs.acquire_retire.Domains.{DomainState}
+use Rattle.control_word.specs.acquire_retire.Seats.{SeatState}
 use Rattle.control_word.specs.Calls.{DropsStrong, GainsStrong}
-use Rattle.protected_loads.specs.Loads.{Announces, FindsNull, Misses, Protects}
-use Rattle.protected_loads.specs.References.{Loads, Refers}
+use Rattle.atomic_shared.specs.protected_loads.Loads.{Announces, FindsNull, Misses, Protects}
+use Rattle.atomic_shared.specs.protected_loads.References.{Loads, Refers}
 use Rattle.control_word.specs.Moves.{Becomes}
-use Rattle.retiring_stores.specs.Exchanging.{Exchanges, LosesTo, Replaces, Stores}
-use Rattle.retiring_stores.specs.Scanning.{Collected, ScansWhereDue}
+use Rattle.atomic_shared.specs.retiring_stores.Exchanging.{Exchanges, LosesTo, Replaces, Stores}
+use Rattle.atomic_shared.specs.retiring_stores.Scanning.{Collected, ScansWhereDue}
 use Rattle.slot_store.specs.Calls.{Begins, Makes}
 use Rattle.slot_store.specs.Searching.{Goes, Misses as MissesAll}
 use Rattle.part_calls.specs.Parts.{as_part, seen_by}

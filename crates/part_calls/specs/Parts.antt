@@ -1,10 +1,10 @@
 -- A domain and its seats, as a part of the protocol sees them.
 use Rattle.std.specs.Prelude.{ℕ, ◌≡◌, List}
-use Rattle.plain_state.specs.declared.act.PlainAct.{PlainAct}
-use Rattle.plain_protocol.specs.Owns.{OwnPart}
-use Rattle.domain_rule.specs.declared.view.SeatView.{SeatView}
-use Rattle.acquire_retire.specs.Domains.{DomainState}
-use Rattle.acquire_retire.specs.Seats.{SeatState}
+use Rattle.control_word.specs.plain_state.declared.act.PlainAct.{PlainAct}
+use Rattle.control_word.specs.plain_protocol.Owns.{OwnPart}
+use Rattle.control_word.specs.domain_rule.declared.view.SeatView.{SeatView}
+use Rattle.control_word.specs.acquire_retire.Domains.{DomainState}
+use Rattle.control_word.specs.acquire_retire.Seats.{SeatState}
 
 -- the domain, with the part in the protocol's place
 abbrev pub as_part : {P Q : Type 0} → (P → Q) → DomainState P → DomainState Q

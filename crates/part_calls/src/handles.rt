@@ -1,17 +1,15 @@
 //! References that a seat copies and gives up.
 ghost use Rattle.std.specs.Prelude.{◌≡◌, ◌<◌, ◌↔◌, IfOk, IsErr, OnErr};
-ghost use Rattle.plain_state.specs.Lists.{times};
-ghost use Rattle.core_events.specs.Steps.{HasRoom};
-ghost use Rattle.acquire_retire.specs.Calls.{IsSameView, same_view};
+ghost use Rattle.control_word.specs.plain_state.Lists.{times};
+ghost use Rattle.control_word.specs.core_events.Steps.{HasRoom};
+ghost use Rattle.control_word.specs.acquire_retire.Calls.{IsSameView, same_view};
 ghost use Rattle.control_word.specs.Calls.{DropsStrong, GainsStrong, without_strong};
 ghost use Rattle.control_word.specs.Moves.{KnowsStill};
 ghost use Rattle.control_word.specs.Resting.{IsAtRest, IsSpent};
 ghost use Rattle.part_calls.specs.Parts.{HasBeside, as_part, seen_by};
 
-use acquire_retire::{Domain, Seat};
-use counted_handles::{Spent, Strong};
-use plain_protocol::Protocol;
-use protocol_pairs::Part;
+use control_word::{Domain, Protocol, Seat, Spent, Strong};
+use slot_store::Part;
 
 /// One more strong reference to the object of one that the seat owns. `Spent` exactly where the seat has used all adds
 /// of its quota, and then nothing has changed. One step, and one add.

@@ -22,8 +22,13 @@ mod loading;
 mod making;
 mod storing;
 
-pub use atomic_shared::{LoadError, Lost, Place, SlotId, Spent, Strong};
+pub use atomic_shared::{LoadError, Lost, Place, SlotId, Spent, Strong, leave};
+pub use control_word::{
+    Deed, Domain, Heap, OpenError, OutOfMemory, PayloadKind, Protocol, Quota, Seat, Shape,
+    SlotImage, Still, open_domain, strong_count,
+};
 pub use handles::{copy_strong, drop_strong};
 pub use loading::{look, try_load};
 pub use making::{MakeError, make};
+pub use slot_store::{Deleter, InPart, Left, Pair, PairKind, Part, Right, read, reap, settle};
 pub use storing::{store, try_replace};

@@ -1,23 +1,21 @@
 //! Places that a seat reads with a deed of the part.
 ghost use Rattle.std.specs.Prelude.{ℕ, ◌≡◌, ◌<◌, ◌↔◌, Err, IfOk, IfSome};
-ghost use Rattle.plain_state.specs.Lists.{times};
-ghost use Rattle.core_events.specs.declared.act.Act.TheVariants as act;
-ghost use Rattle.core_events.specs.Steps.{HasRoom, May};
-ghost use Rattle.core_events.specs.Words.{slot_in};
-ghost use Rattle.counted_handles.specs.declared.refusal.LoadError.TheVariants as refused;
-ghost use Rattle.acquire_retire.specs.Calls.{IsOf, IsReady, Steps};
+ghost use Rattle.control_word.specs.plain_state.Lists.{times};
+ghost use Rattle.control_word.specs.core_events.declared.act.Act.TheVariants as act;
+ghost use Rattle.control_word.specs.core_events.Steps.{HasRoom, May};
+ghost use Rattle.control_word.specs.core_events.Words.{slot_in};
+ghost use Rattle.control_word.specs.counted_handles.declared.refusal.LoadError.TheVariants as refused;
+ghost use Rattle.control_word.specs.acquire_retire.Calls.{IsOf, IsReady, Steps};
 ghost use Rattle.control_word.specs.Moves.{KnowsStill};
 ghost use Rattle.control_word.specs.Resting.{IsAtRest, IsSpent};
-ghost use Rattle.protected_loads.specs.Loads.{Misses};
-ghost use Rattle.protected_loads.specs.References.{IsReadyToLoad, Loads};
+ghost use Rattle.atomic_shared.specs.protected_loads.Loads.{Misses};
+ghost use Rattle.atomic_shared.specs.protected_loads.References.{IsReadyToLoad, Loads};
 ghost use Rattle.atomic_shared.specs.Loading.{CanLoad};
 ghost use Rattle.atomic_shared.specs.Places.{named, strong_place};
 ghost use Rattle.part_calls.specs.Parts.{AcceptsAll, HasBeside, as_part, seen_by, view_seen};
 
-use acquire_retire::{Domain, EventPlace, Outcome, Seat};
-use counted_handles::{LoadError, Place, Strong};
-use plain_protocol::{Deed, Protocol};
-use protocol_pairs::{InPart, Part};
+use control_word::{Deed, Domain, EventPlace, LoadError, Outcome, Place, Protocol, Seat, Strong};
+use slot_store::{InPart, Part};
 
 /// Reads a place, with a deed of the part. One step.
 pub fn look<Q: Protocol, S, P: Part<Q, S>, D: Deed<Q>>(

@@ -1,8 +1,8 @@
 //! A new object of the part's.
 ghost use Rattle.std.specs.Prelude.{◌≡◌, ◌<◌, ◌↔◌, Err, IfOk, OnErr};
-ghost use Rattle.plain_state.specs.Lists.{times};
-ghost use Rattle.core_events.specs.Steps.{HasRoom};
-ghost use Rattle.claim_law.specs.Claims.{makes_given};
+ghost use Rattle.control_word.specs.plain_state.Lists.{times};
+ghost use Rattle.control_word.specs.core_events.Steps.{HasRoom};
+ghost use Rattle.slot_store.specs.claim_law.Claims.{makes_given};
 ghost use Rattle.control_word.specs.Moves.{KnowsStill};
 ghost use Rattle.control_word.specs.Resting.{IsAtRest, IsSpent};
 ghost use Rattle.slot_store.specs.declared.making.MakeError.TheVariants as refused;
@@ -10,11 +10,9 @@ ghost use Rattle.slot_store.specs.Calls.{HasNoMake, IsReadyToMake, Makes};
 ghost use Rattle.slot_store.specs.Searching.{Misses};
 ghost use Rattle.part_calls.specs.Parts.{AcceptsAll, HasBeside, as_part, seen_by};
 
-use acquire_retire::{Domain, Seat};
-use counted_handles::Strong;
-use plain_protocol::{Deed, Protocol};
-use protocol_pairs::{InPart, Part};
+use control_word::{Deed, Domain, Protocol, Seat, Strong};
 pub use slot_store::MakeError;
+use slot_store::{InPart, Part};
 
 /// Makes an object with this payload, which is the part's, in a free slot, with one strong reference, which is the
 /// seat's. `MakesSpent` comes first, exactly where the seat has no make left, then `AddsSpent`, exactly where it has no

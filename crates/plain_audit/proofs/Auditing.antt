@@ -2,16 +2,16 @@
 use Rattle.std.proofs.Common.{◌≡◌, ◌≢◌, ℕ, ◌^◌, ◌<◌, nat_lt, List, [], length, refl, ap, sym, ◌∙◌, subst, arith, inl, inr}
 use Rattle.std.specs.Prelude.{if◌then◌else◌, Result, Ok, Err, IfOk}
 use Rattle.std.proofs.lemmas.Bool.{cases_lt, cond-true, cond-false, lt-ltb, le-ltb}
-use Rattle.plain_state.specs.declared.image.Heap.{Heap}
-use Rattle.plain_state.specs.declared.image.SlotImage.{SlotImage}
-use Rattle.plain_state.specs.declared.slot.SlotId.{SlotId}
-use Rattle.plain_state.specs.declared.slot.Stage.{Stage}
-use Rattle.plain_state.specs.declared.slot.Stage.TheVariants.{Free, Blank, Live, Ended, Husk}
-use Rattle.plain_state.specs.Images.{IsImage}
-use Rattle.plain_state.specs.State.{Plain, slot_at, stage_at}
-use Rattle.plain_state.proofs.SeatRows.{is_there}
-use Rattle.plain_store.specs.Heaps.{IsHeap}
-use Rattle.plain_store.specs.Settling.{IsSettled}
+use Rattle.heap_audit.specs.plain_state.declared.image.Heap.{Heap}
+use Rattle.heap_audit.specs.plain_state.declared.image.SlotImage.{SlotImage}
+use Rattle.heap_audit.specs.plain_state.declared.slot.SlotId.{SlotId}
+use Rattle.heap_audit.specs.plain_state.declared.slot.Stage.{Stage}
+use Rattle.heap_audit.specs.plain_state.declared.slot.Stage.TheVariants.{Free, Blank, Live, Ended, Husk}
+use Rattle.heap_audit.specs.plain_state.Images.{IsImage}
+use Rattle.heap_audit.specs.plain_state.State.{Plain, slot_at, stage_at}
+use Rattle.heap_audit.proofs.Below.plain_state.SeatRows.{is_there}
+use Rattle.cdrc_plain.specs.plain_store.Heaps.{IsHeap}
+use Rattle.cdrc_plain.specs.plain_store.Settling.{IsSettled}
 use Rattle.heap_audit.specs.declared.finding.Audit.{Audit}
 use Rattle.heap_audit.specs.Heaps.{slot, image_of, IsLive, has_no_zero, strong_count, weight_of}
 use Rattle.heap_audit.specs.Heaps as words

@@ -1,13 +1,13 @@
 -- Where all fields are null each Live slot is a root, so nothing is unreached.
 use Rattle.std.proofs.Common.{◌≡◌, ℕ, suc, ◌<◌, List, [], ◌∷◌, length, get_or, All, sum_by, refl, ap, arith, inl}
 use Rattle.std.proofs.lemmas.List.Sums.{sum_by-cons}
-use Rattle.plain_state.specs.declared.slot.SlotId.{SlotId}
-use Rattle.plain_state.specs.declared.slot.PlainSlot.{PlainSlot}
-use Rattle.plain_state.specs.Lawful.{HasNullFields}
-use Rattle.plain_state.specs.State.{Plain, new_slot}
-use Rattle.plain_state.specs.References.{held_in, over_slots, strong_fields, strong_refs}
-use Rattle.plain_state.proofs.Kit.{held_none}
-use Rattle.plain_store.specs.Settling.{IsSettled}
+use Rattle.heap_audit.specs.plain_state.declared.slot.SlotId.{SlotId}
+use Rattle.heap_audit.specs.plain_state.declared.slot.PlainSlot.{PlainSlot}
+use Rattle.heap_audit.specs.plain_state.Lawful.{HasNullFields}
+use Rattle.heap_audit.specs.plain_state.State.{Plain, new_slot}
+use Rattle.heap_audit.specs.plain_state.References.{held_in, over_slots, strong_fields, strong_refs}
+use Rattle.heap_audit.proofs.Below.plain_state.Kit.{held_none}
+use Rattle.cdrc_plain.specs.plain_store.Settling.{IsSettled}
 use Rattle.heap_audit.specs.Heaps.{slot}
 use Rattle.heap_audit.specs.Reached.{HowMany}
 use Rattle.heap_audit.proofs.Leasts.{many_none}

@@ -1,19 +1,19 @@
 -- The image of a settled heap obeys the law of heaps: what an audit of the image asks.
 use Rattle.std.proofs.Common.{◌≡◌, ◌≢◌, ℕ, ◌^◌, ◌<◌, ◌≤◌, List, length, get_or, All, refl, ap, sym, ◌∙◌, subst, arith, inl, None}
 use Rattle.std.proofs.lemmas.List.Elements.{All-map, All-from_get_or}
-use Rattle.plain_state.specs.declared.act.EventPlace.TheVariants.{Cell, Field, WeakCell, WeakField}
-use Rattle.plain_state.specs.declared.image.Heap.{Heap}
-use Rattle.plain_state.specs.declared.image.SlotImage.{SlotImage}
-use Rattle.plain_state.specs.declared.slot.SlotId.{SlotId}
-use Rattle.plain_state.specs.declared.slot.Stage.TheVariants.{Live, Ended}
-use Rattle.plain_state.specs.Images.{IsImage, free_image}
-use Rattle.plain_state.specs.Lists.{Entry, times}
-use Rattle.plain_state.specs.State.{Plain, slot_at, stage_at}
-use Rattle.plain_state.specs.References.{dying_times}
-use Rattle.plain_state.specs.Steps.{word_of}
-use Rattle.plain_state.proofs.Kit.{times_none}
-use Rattle.plain_store.specs.Heaps.{IsHeap}
-use Rattle.plain_store.specs.Settling.{IsSettled}
+use Rattle.heap_audit.specs.plain_state.declared.act.EventPlace.TheVariants.{Cell, Field, WeakCell, WeakField}
+use Rattle.heap_audit.specs.plain_state.declared.image.Heap.{Heap}
+use Rattle.heap_audit.specs.plain_state.declared.image.SlotImage.{SlotImage}
+use Rattle.heap_audit.specs.plain_state.declared.slot.SlotId.{SlotId}
+use Rattle.heap_audit.specs.plain_state.declared.slot.Stage.TheVariants.{Live, Ended}
+use Rattle.heap_audit.specs.plain_state.Images.{IsImage, free_image}
+use Rattle.heap_audit.specs.plain_state.Lists.{Entry, times}
+use Rattle.heap_audit.specs.plain_state.State.{Plain, slot_at, stage_at}
+use Rattle.heap_audit.specs.plain_state.References.{dying_times}
+use Rattle.heap_audit.specs.plain_state.Steps.{word_of}
+use Rattle.heap_audit.proofs.Below.plain_state.Kit.{times_none}
+use Rattle.cdrc_plain.specs.plain_store.Heaps.{IsHeap}
+use Rattle.cdrc_plain.specs.plain_store.Settling.{IsSettled}
 use Rattle.heap_audit.specs.Heaps.{slot, image_of, HasNullFields, IsLawful, Within, HasFieldsWithin, IsInRange, HasFittingPayloads}
 use Rattle.plain_audit.proofs.Numbers.{seat_alone}
 use Rattle.plain_audit.proofs.Within.{place_within, entry_within}

@@ -4,23 +4,23 @@ use Rattle.std.specs.Prelude.{if◌then◌else◌}
 use Rattle.std.proofs.lemmas.Bool.{cases_lt}
 use Rattle.std.proofs.lemmas.Bool.Decides.{nat_tests}
 use Rattle.std.proofs.lemmas.List.{get_or_past}
-use Rattle.plain_state.specs.declared.image.Heap.{Heap}
-use Rattle.plain_state.specs.declared.image.SlotImage.{SlotImage}
-use Rattle.plain_state.specs.declared.slot.Kind.TheVariants.{Strong}
-use Rattle.plain_state.specs.declared.slot.PlainSlot.{PlainSlot}
-use Rattle.plain_state.specs.declared.slot.SlotId.{SlotId}
-use Rattle.plain_state.specs.declared.slot.Stage.TheVariants.{Free, Live}
-use Rattle.plain_state.specs.Images.{IsImage, free_image}
-use Rattle.counter_word.specs.Words.{value}
-use Rattle.plain_state.specs.Lists.{cell_times, entry_times}
-use Rattle.plain_state.specs.State.{Plain, new_slot, slot_at, stage_at}
-use Rattle.plain_state.specs.References.{over_slots, strong_fields, deferrals, strong_refs}
-use Rattle.plain_state.proofs.Changes.{owned_times}
-use Rattle.plain_state.proofs.Kit.{none_by}
-use Rattle.plain_state.proofs.SeatRows.{is_there}
-use Rattle.plain_state.proofs.SlotLaw.{numbers, slot_law, live_unmarked}
-use Rattle.plain_store.specs.Heaps.{IsHeap}
-use Rattle.plain_store.specs.Settling.{IsSettled}
+use Rattle.heap_audit.specs.plain_state.declared.image.Heap.{Heap}
+use Rattle.heap_audit.specs.plain_state.declared.image.SlotImage.{SlotImage}
+use Rattle.heap_audit.specs.plain_state.declared.slot.Kind.TheVariants.{Strong}
+use Rattle.heap_audit.specs.plain_state.declared.slot.PlainSlot.{PlainSlot}
+use Rattle.heap_audit.specs.plain_state.declared.slot.SlotId.{SlotId}
+use Rattle.heap_audit.specs.plain_state.declared.slot.Stage.TheVariants.{Free, Live}
+use Rattle.heap_audit.specs.plain_state.Images.{IsImage, free_image}
+use Rattle.heap_audit.specs.counter_word.Words.{value}
+use Rattle.heap_audit.specs.plain_state.Lists.{cell_times, entry_times}
+use Rattle.heap_audit.specs.plain_state.State.{Plain, new_slot, slot_at, stage_at}
+use Rattle.heap_audit.specs.plain_state.References.{over_slots, strong_fields, deferrals, strong_refs}
+use Rattle.heap_audit.proofs.Below.plain_state.Changes.{owned_times}
+use Rattle.heap_audit.proofs.Below.plain_state.Kit.{none_by}
+use Rattle.heap_audit.proofs.Below.plain_state.SeatRows.{is_there}
+use Rattle.heap_audit.proofs.Below.plain_state.SlotLaw.{numbers, slot_law, live_unmarked}
+use Rattle.cdrc_plain.specs.plain_store.Heaps.{IsHeap}
+use Rattle.cdrc_plain.specs.plain_store.Settling.{IsSettled}
 use Rattle.heap_audit.specs.Heaps.{slot, image_of, IsLive, names, fields_holding, in_fields, in_cells, in_deferred, entries, strong_count}
 use Rattle.plain_audit.proofs.Numbers.{seat_alone, held_word, same_sums, cell_words}
 

@@ -3,15 +3,15 @@ use Rattle.std.proofs.Common.{◌≡◌, ℕ, suc, ◌+◌, ◌<◌, List, [], �
 use Rattle.std.specs.Prelude.{if◌then◌else◌}
 use Rattle.std.proofs.lemmas.Bool.{cases_eq}
 use Rattle.std.proofs.lemmas.List.Sums.{sum_by-cons}
-use Rattle.plain_state.specs.declared.image.SlotImage.{SlotImage}
-use Rattle.plain_state.specs.declared.slot.SlotId.{SlotId}
-use Rattle.plain_state.specs.declared.slot.PlainSlot.{PlainSlot}
-use Rattle.plain_state.specs.Images.{free_image}
-use Rattle.plain_state.specs.Lists.{holds, cell_times}
-use Rattle.plain_state.specs.State.{Plain, PlainSeat, new_seat, new_slot, seat_at}
-use Rattle.plain_state.specs.References.{held_in, over_seats, over_slots}
-use Rattle.plain_state.specs.Steps.{word_of}
-use Rattle.plain_state.proofs.Kit.{held_none, held_same, held_other}
+use Rattle.heap_audit.specs.plain_state.declared.image.SlotImage.{SlotImage}
+use Rattle.heap_audit.specs.plain_state.declared.slot.SlotId.{SlotId}
+use Rattle.heap_audit.specs.plain_state.declared.slot.PlainSlot.{PlainSlot}
+use Rattle.heap_audit.specs.plain_state.Images.{free_image}
+use Rattle.heap_audit.specs.plain_state.Lists.{holds, cell_times}
+use Rattle.heap_audit.specs.plain_state.State.{Plain, PlainSeat, new_seat, new_slot, seat_at}
+use Rattle.heap_audit.specs.plain_state.References.{held_in, over_seats, over_slots}
+use Rattle.heap_audit.specs.plain_state.Steps.{word_of}
+use Rattle.heap_audit.proofs.Below.plain_state.Kit.{held_none, held_same, held_other}
 use Rattle.heap_audit.specs.Heaps.{names, held}
 use Rattle.heap_audit.proofs.Holding.{held_here, held_not}
 

@@ -1,7 +1,7 @@
 -- Where no two Live slots have one rank, all audits find the same.
 use Rattle.std.proofs.Common.{◌≡◌, ℕ, List, length, sym, ◌∙◌, arith, inl, inr}
 use Rattle.std.proofs.lemmas.Bool.{cases_lt}
-use Rattle.plain_state.specs.State.{Plain}
+use Rattle.heap_audit.specs.plain_state.State.{Plain}
 use Rattle.heap_audit.specs.declared.finding.Audit.{Audit}
 use Rattle.heap_audit.specs.Heaps.{slot}
 use Rattle.heap_audit.proofs.Alike.{many_once}

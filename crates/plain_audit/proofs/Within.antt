@@ -1,19 +1,19 @@
 -- What a place or a deferred entry of a sound state names is there.
 use Rattle.std.proofs.Common.{◌≡◌, ℕ, zero, suc, ◌+◌, ◌<◌, ◌≤◌, List, [], ◌∷◌, length, get_or, ap, ◌∙◌, arith, Option, Some, None}
-use Rattle.plain_state.specs.declared.act.EventPlace.{EventPlace}
-use Rattle.plain_state.specs.declared.slot.Kind.{Kind}
-use Rattle.plain_state.specs.declared.slot.Kind.TheVariants.{Strong, Weak, Disposal}
-use Rattle.plain_state.specs.declared.slot.SlotId.{SlotId}
-use Rattle.plain_state.specs.Lists.{Entry, entry_times}
-use Rattle.plain_state.specs.State.{Plain, seat_at}
-use Rattle.plain_state.specs.Places.{place_kind, content}
-use Rattle.plain_state.specs.References.{held_in, places, deferrals}
-use Rattle.plain_state.specs.Sound.{Sound}
-use Rattle.plain_state.specs.Steps.{word_of}
-use Rattle.plain_state.proofs.Changes.{IsThere, place_part, seat_part}
-use Rattle.plain_state.proofs.Kit.{held_self, entry_self, entry_cons}
-use Rattle.plain_state.proofs.SeatRows.{is_there}
-use Rattle.plain_store.specs.Heaps.{NoDisposals}
+use Rattle.heap_audit.specs.plain_state.declared.act.EventPlace.{EventPlace}
+use Rattle.heap_audit.specs.plain_state.declared.slot.Kind.{Kind}
+use Rattle.heap_audit.specs.plain_state.declared.slot.Kind.TheVariants.{Strong, Weak, Disposal}
+use Rattle.heap_audit.specs.plain_state.declared.slot.SlotId.{SlotId}
+use Rattle.heap_audit.specs.plain_state.Lists.{Entry, entry_times}
+use Rattle.heap_audit.specs.plain_state.State.{Plain, seat_at}
+use Rattle.heap_audit.specs.plain_state.Places.{place_kind, content}
+use Rattle.heap_audit.specs.plain_state.References.{held_in, places, deferrals}
+use Rattle.heap_audit.specs.plain_state.Sound.{Sound}
+use Rattle.heap_audit.specs.plain_state.Steps.{word_of}
+use Rattle.heap_audit.proofs.Below.plain_state.Changes.{IsThere, place_part, seat_part}
+use Rattle.heap_audit.proofs.Below.plain_state.Kit.{held_self, entry_self, entry_cons}
+use Rattle.heap_audit.proofs.Below.plain_state.SeatRows.{is_there}
+use Rattle.cdrc_plain.specs.plain_store.Heaps.{NoDisposals}
 use Rattle.plain_audit.proofs.Numbers.{seat_alone}
 
 -- an entry stands in its list

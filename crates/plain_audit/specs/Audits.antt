@@ -1,10 +1,10 @@
 -- What an audit of a plain state finds.
 use Rattle.std.specs.Prelude.{ℕ, ◌≡◌, ◌<◌, List, [], length}
-use Rattle.plain_state.specs.declared.slot.SlotId.{SlotId}
-use Rattle.plain_state.specs.declared.slot.Stage.{Stage}
-use Rattle.plain_state.specs.declared.slot.Stage.TheVariants.{Free, Blank, Live, Ended, Husk}
-use Rattle.plain_state.specs.State.{Plain, stage_at}
-use Rattle.plain_state.specs.References.{over_seats, over_slots}
+use Rattle.heap_audit.specs.plain_state.declared.slot.SlotId.{SlotId}
+use Rattle.heap_audit.specs.plain_state.declared.slot.Stage.{Stage}
+use Rattle.heap_audit.specs.plain_state.declared.slot.Stage.TheVariants.{Free, Blank, Live, Ended, Husk}
+use Rattle.heap_audit.specs.plain_state.State.{Plain, stage_at}
+use Rattle.heap_audit.specs.plain_state.References.{over_seats, over_slots}
 use Rattle.heap_audit.specs.declared.finding.Audit.{Audit}
 use Rattle.heap_audit.specs.Heaps.{slot}
 use Rattle.heap_audit.specs.Reached.{HowMany}

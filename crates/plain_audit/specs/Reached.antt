@@ -1,11 +1,11 @@
 -- Which slots of a plain state are reached from what is owned, from a strong cell or from a deferred strong entry.
 use Rattle.std.specs.Prelude.{◌≡◌, ◌<◌, ◌+◌}
-use Rattle.plain_state.specs.declared.slot.Kind.TheVariants.{Strong}
-use Rattle.plain_state.specs.declared.slot.SlotId.{SlotId}
-use Rattle.plain_state.specs.declared.slot.Stage.TheVariants.{Live}
-use Rattle.plain_state.specs.Lists.{times, cell_times}
-use Rattle.plain_state.specs.State.{Plain, slot_at, stage_at}
-use Rattle.plain_state.specs.References.{over_seats, strong_fields, deferrals}
+use Rattle.heap_audit.specs.plain_state.declared.slot.Kind.TheVariants.{Strong}
+use Rattle.heap_audit.specs.plain_state.declared.slot.SlotId.{SlotId}
+use Rattle.heap_audit.specs.plain_state.declared.slot.Stage.TheVariants.{Live}
+use Rattle.heap_audit.specs.plain_state.Lists.{times, cell_times}
+use Rattle.heap_audit.specs.plain_state.State.{Plain, slot_at, stage_at}
+use Rattle.heap_audit.specs.plain_state.References.{over_seats, strong_fields, deferrals}
 use Rattle.heap_audit.specs.Paths.{LeadsTo}
 
 -- a is Live and a strong field of a holds b

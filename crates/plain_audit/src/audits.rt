@@ -1,12 +1,11 @@
 //! The audit of a plain heap, by its image.
 ghost use Rattle.std.specs.Prelude.{◌≡◌, IfOk, length};
-ghost use Rattle.deleter.specs.Weighing.{Weighs};
-ghost use Rattle.plain_store.specs.Settling.{IsSettled};
+ghost use Rattle.heap_audit.specs.deleter.Weighing.{Weighs};
+ghost use Rattle.cdrc_plain.specs.plain_store.Settling.{IsSettled};
 ghost use Rattle.plain_audit.specs.Audits.{IsAudit};
 
 use cdrc_plain::{OutOfMemory, PayloadKind, PlainHeap};
-use deleter::Deleter;
-use heap_audit::{Audit, audit};
+use heap_audit::{Audit, Deleter, audit};
 use std::alloc::Global;
 
 /// The audit of a heap that has settled. `rank` has one number for each slot, and says only which cycle is found and

@@ -1,9 +1,9 @@
 //! What follows from what an audit finds, whatever finds it.
 ghost use Rattle.std.specs.Prelude.{ℕ, List, All};
-ghost use Rattle.plain_state.specs.declared.slot.SlotId.{SlotId};
-ghost use Rattle.plain_state.specs.State.{Plain};
-ghost use Rattle.plain_state.specs.Lawful.{HasNullFields};
-ghost use Rattle.plain_store.specs.Settling.{IsSettled};
+ghost use Rattle.heap_audit.specs.plain_state.declared.slot.SlotId.{SlotId};
+ghost use Rattle.heap_audit.specs.plain_state.State.{Plain};
+ghost use Rattle.heap_audit.specs.plain_state.Lawful.{HasNullFields};
+ghost use Rattle.cdrc_plain.specs.plain_store.Settling.{IsSettled};
 ghost use Rattle.heap_audit.specs.declared.finding.Audit.{Audit};
 ghost use Rattle.plain_audit.specs.Audits.{FindsSame, HasDistinctRanks, IsAudit};
 ghost use Rattle.plain_audit.specs.Reached.{IsUnreached};

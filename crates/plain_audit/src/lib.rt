@@ -18,9 +18,8 @@
 
 mod audits;
 mod laws;
-#[cfg(test)]
-mod tests;
 
 pub use audits::audit_heap;
-pub use heap_audit::Audit;
+pub use cdrc_plain::{Heap, NoLaw, PlainHeap};
+pub use heap_audit::{Audit, Deleter, audit, check_walk, lawful};
 pub use laws::{one_audit_is_found, only_fields_make_cycles};

@@ -16,12 +16,14 @@ mod deed;
 mod laws;
 mod no_law;
 mod protocol;
-#[cfg(test)]
-mod tests;
 
 pub use deed::{Deed, Still};
 pub use laws::{
     any_step_is_ready, calm_steps_leave, fits_stay, no_law_owns_nothing, still_is_calm,
 };
 pub use no_law::{AnyStep, NoLaw};
+pub use plain_state::{
+    Announced, EventPlace, Heap, Kind, MOST_SLOTS, PayloadKind, PlainAct, PlainSlot, RecordKind,
+    SlotId, SlotImage, Stage, ZERO, record_of, steps_keep_sound,
+};
 pub use protocol::Protocol;

@@ -1,2 +1,3 @@
+pub mod Below
 pub mod Settling
 pub mod Taking

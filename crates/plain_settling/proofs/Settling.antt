@@ -1,15 +1,15 @@
 -- Tidying goes on, and plain heaps settle by tidying.
 use Rattle.std.proofs.Common.{◌≡◌, ℕ, ◌+◌, ◌<◌, ◌≤◌, List, [], ◌∷◌, ◌++◌, refl, ap, sym, ◌∙◌, subst, arith}
-use Rattle.plain_state.specs.declared.act.EventPlace.{EventPlace}
-use Rattle.plain_state.specs.declared.act.PlainAct.{PlainAct}
-use Rattle.plain_state.specs.declared.act.PlainAct.TheVariants as act
-use Rattle.plain_state.specs.declared.slot.Kind.{Kind}
-use Rattle.plain_state.specs.declared.slot.Kind.TheVariants.{Strong, Weak, Disposal}
-use Rattle.plain_state.specs.declared.slot.SlotId.{SlotId}
-use Rattle.plain_state.specs.Lists.{Entry, entry_times}
-use Rattle.plain_state.specs.State.{Plain, PlainSeat, seat_at}
-use Rattle.plain_state.specs.Steps.{Does}
-use Rattle.plain_state.proofs.Kit.{entry_append, entry_cons, entry_in, entry_self}
+use Rattle.plain_store.specs.plain_state.declared.act.EventPlace.{EventPlace}
+use Rattle.plain_store.specs.plain_state.declared.act.PlainAct.{PlainAct}
+use Rattle.plain_store.specs.plain_state.declared.act.PlainAct.TheVariants as act
+use Rattle.plain_store.specs.plain_state.declared.slot.Kind.{Kind}
+use Rattle.plain_store.specs.plain_state.declared.slot.Kind.TheVariants.{Strong, Weak, Disposal}
+use Rattle.plain_store.specs.plain_state.declared.slot.SlotId.{SlotId}
+use Rattle.plain_store.specs.plain_state.Lists.{Entry, entry_times}
+use Rattle.plain_store.specs.plain_state.State.{Plain, PlainSeat, seat_at}
+use Rattle.plain_store.specs.plain_state.Steps.{Does}
+use Rattle.plain_store.proofs.Below.plain_state.Kit.{entry_append, entry_cons, entry_in, entry_self}
 use Rattle.plain_store.specs.Settling.{EjectsLater, Settles, SettlesBy, SettlesTo}
 use Rattle.plain_settling.specs.Settling.{IsSurplus, Tidies, TidiesBy, TidiesTo}
 

@@ -2,10 +2,10 @@
 use Rattle.std.proofs.Common.{◌≡◌, true, false, [], ◌∷◌, ◌++◌, refl, sym, Option, Some, None}
 use Rattle.std.specs.Prelude.{Bool}
 use Rattle.std.proofs.lemmas.List.{append-nil}
-use Rattle.plain_state.specs.declared.act.EventPlace.{EventPlace}
-use Rattle.plain_state.specs.declared.slot.SlotId.{SlotId}
-use Rattle.plain_state.specs.Places.{place_kind}
-use Rattle.plain_state.specs.State.{Plain, seat_at}
+use Rattle.plain_store.specs.plain_state.declared.act.EventPlace.{EventPlace}
+use Rattle.plain_store.specs.plain_state.declared.slot.SlotId.{SlotId}
+use Rattle.plain_store.specs.plain_state.Places.{place_kind}
+use Rattle.plain_store.specs.plain_state.State.{Plain, seat_at}
 use Rattle.plain_store.specs.Calls.{Snaps}
 use Rattle.plain_settling.specs.Snapshots.{Takes}
 

@@ -1,12 +1,12 @@
 -- How a heap of one seat settles, whatever the order in which its entries wait.
 use Rattle.std.specs.Prelude.{ℕ, ◌≡◌, ◌<◌, List, [], ◌∷◌}
-use Rattle.plain_state.specs.declared.act.PlainAct.{PlainAct}
-use Rattle.plain_state.specs.declared.act.PlainAct.TheVariants as act
-use Rattle.plain_state.specs.declared.slot.Kind.{Kind}
-use Rattle.plain_state.specs.declared.slot.SlotId.{SlotId}
-use Rattle.plain_state.specs.Lists.{entry_times}
-use Rattle.plain_state.specs.State.{Plain, PlainSeat, seat_at}
-use Rattle.plain_state.specs.Steps.{Does}
+use Rattle.plain_store.specs.plain_state.declared.act.PlainAct.{PlainAct}
+use Rattle.plain_store.specs.plain_state.declared.act.PlainAct.TheVariants as act
+use Rattle.plain_store.specs.plain_state.declared.slot.Kind.{Kind}
+use Rattle.plain_store.specs.plain_state.declared.slot.SlotId.{SlotId}
+use Rattle.plain_store.specs.plain_state.Lists.{entry_times}
+use Rattle.plain_store.specs.plain_state.State.{Plain, PlainSeat, seat_at}
+use Rattle.plain_store.specs.plain_state.Steps.{Does}
 
 -- more such entries wait than are announced
 abbrev pub IsSurplus : PlainSeat → Kind → SlotId → Type 0

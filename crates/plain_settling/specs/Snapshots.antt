@@ -1,12 +1,12 @@
 -- How the seat of a heap takes a snapshot, whatever the order in which its snapshots stand.
 use Rattle.std.specs.Prelude.{Bool, true, false, ◌≡◌, ◌<◌, ◌≤◌, ◌+◌, List, length, Option, Some, None}
-use Rattle.plain_state.specs.declared.act.EventPlace.{EventPlace}
-use Rattle.plain_state.specs.declared.act.PlainAct.TheVariants as act
-use Rattle.plain_state.specs.declared.slot.SlotId.{SlotId}
-use Rattle.plain_state.specs.Lists.{Entry, Gains}
-use Rattle.plain_state.specs.Places.{content, place_kind}
-use Rattle.plain_state.specs.State.{Plain, seat_at, with_seat}
-use Rattle.plain_state.specs.Steps.{Does}
+use Rattle.plain_store.specs.plain_state.declared.act.EventPlace.{EventPlace}
+use Rattle.plain_store.specs.plain_state.declared.act.PlainAct.TheVariants as act
+use Rattle.plain_store.specs.plain_state.declared.slot.SlotId.{SlotId}
+use Rattle.plain_store.specs.plain_state.Lists.{Entry, Gains}
+use Rattle.plain_store.specs.plain_state.Places.{content, place_kind}
+use Rattle.plain_store.specs.plain_state.State.{Plain, seat_at, with_seat}
+use Rattle.plain_store.specs.plain_state.Steps.{Does}
 use Rattle.plain_store.specs.Calls.{Loads}
 
 -- the seat is under one snapshot more, of s in this place

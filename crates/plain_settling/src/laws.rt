@@ -1,8 +1,8 @@
 //! What holds of every settling, and of every snapshot.
 ghost use Rattle.std.specs.Prelude.{ℕ, Bool, List, Option};
-ghost use Rattle.plain_state.specs.declared.act.EventPlace.{EventPlace};
-ghost use Rattle.plain_state.specs.declared.slot.SlotId.{SlotId};
-ghost use Rattle.plain_state.specs.State.{Plain};
+ghost use Rattle.plain_store.specs.plain_state.declared.act.EventPlace.{EventPlace};
+ghost use Rattle.plain_store.specs.plain_state.declared.slot.SlotId.{SlotId};
+ghost use Rattle.plain_store.specs.plain_state.State.{Plain};
 ghost use Rattle.plain_store.specs.Settling.{SettlesTo};
 ghost use Rattle.plain_store.specs.Calls.{Snaps};
 ghost use Rattle.plain_settling.specs.Snapshots.{Takes};

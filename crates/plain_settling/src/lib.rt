@@ -17,3 +17,7 @@
 mod laws;
 
 pub use laws::{plain_heaps_settle_so, plain_heaps_take_so, settling_goes_on};
+pub use plain_store::{
+    EventPlace, Hand, Kind, MOST_CELLS, MOST_SLOTS, MOST_WEAK_CELLS, MakeRefused, PayloadKind,
+    PlainPlace, PlainWeakPlace, SlotId, SlotImage, SnapHand, WeakHand, ZERO, counted,
+};

@@ -1,3 +1,4 @@
+pub mod Below
 pub mod Kit
 pub mod Changes
 pub mod SlotLaw

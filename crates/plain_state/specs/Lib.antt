@@ -1,3 +1,6 @@
+-- What callers cite of the crates below.
+pub use Rattle.counter_word.specs as counter_word
+-- Its own.
 pub mod Lists
 pub mod State
 pub mod Limits

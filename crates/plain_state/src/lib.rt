@@ -27,7 +27,7 @@ mod slot;
 
 pub use act::{EventPlace, PlainAct};
 pub use announced::Announced;
-pub use counter_word::ZERO;
+pub use counter_word::{HELP, ZERO, has_help, value};
 pub use ejection::laws_of_ejection;
 pub use image::{Heap, SlotImage};
 pub use laws::steps_keep_sound;

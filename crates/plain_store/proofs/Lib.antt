@@ -1,3 +1,4 @@
+pub mod Below
 pub mod Kepts
 pub mod Losing
 pub mod Making
@@ -12,7 +13,6 @@ pub mod SettlingStores
 pub mod SettlingEntries
 pub mod SettlingObjects
 pub mod SettlingRounds
-pub mod Owning
 pub mod Gains
 pub mod Placing
 pub mod Loading

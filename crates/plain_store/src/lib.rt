@@ -32,7 +32,11 @@ mod tally;
 pub use entries::is_of;
 pub use hand::{Hand, SnapHand, WeakHand, counted};
 pub use laws::settling_ejects_as_announced;
+pub use out_of_memory::{Back, OutOfMemory};
 pub use place::{PlainPlace, PlainWeakPlace};
+pub use plain_state::{
+    EventPlace, Kind, MOST_CELLS, MOST_SLOTS, MOST_WEAK_CELLS, PayloadKind, SlotId, SlotImage, ZERO,
+};
 pub use refusal::{Full, MakeRefused};
 pub use store::Store;
 pub use store_image::words;

@@ -1,18 +1,18 @@
 -- An add under a strong snapshot counts.
 use Rattle.std.proofs.Common.{ℕ, ◌<◌, List, refl, ◌∙◌, subst, arith}
-use Rattle.plain_state.specs.declared.act.PlainAct.{PlainAct}
-use Rattle.plain_state.specs.declared.slot.Kind.TheVariants.{Strong}
-use Rattle.plain_state.specs.declared.slot.SlotId.{SlotId}
-use Rattle.plain_state.specs.Lists.{entry_times}
-use Rattle.plain_state.specs.State.{Plain}
-use Rattle.plain_protocol.specs.Owns.{OwnPart}
-use Rattle.core_events.specs.declared.act.Act.TheVariants as act
-use Rattle.core_events.specs.declared.outcome.Outcome.{Outcome}
-use Rattle.core_events.specs.declared.outcome.Outcome.TheVariants as outcome
-use Rattle.core_events.specs.Views.{Holds, HoldsStrongly, snapshots}
-use Rattle.acquire_retire.specs.Calls.{Steps}
-use Rattle.acquire_retire.specs.Domains.{DomainState}
-use Rattle.acquire_retire.specs.Seats.{SeatState}
+use Rattle.control_word.specs.plain_state.declared.act.PlainAct.{PlainAct}
+use Rattle.control_word.specs.plain_state.declared.slot.Kind.TheVariants.{Strong}
+use Rattle.control_word.specs.plain_state.declared.slot.SlotId.{SlotId}
+use Rattle.control_word.specs.plain_state.Lists.{entry_times}
+use Rattle.control_word.specs.plain_state.State.{Plain}
+use Rattle.control_word.specs.plain_protocol.Owns.{OwnPart}
+use Rattle.control_word.specs.core_events.declared.act.Act.TheVariants as act
+use Rattle.control_word.specs.core_events.declared.outcome.Outcome.{Outcome}
+use Rattle.control_word.specs.core_events.declared.outcome.Outcome.TheVariants as outcome
+use Rattle.control_word.specs.core_events.Views.{Holds, HoldsStrongly, snapshots}
+use Rattle.control_word.specs.acquire_retire.Calls.{Steps}
+use Rattle.control_word.specs.acquire_retire.Domains.{DomainState}
+use Rattle.control_word.specs.acquire_retire.Seats.{SeatState}
 use Rattle.control_word.proofs.Finding.{counting, strong_some, strong_word}
 
 pub up_under_snapshot : {P V : Type 0} {fits : List ℕ → Type 0} (d : DomainState P)

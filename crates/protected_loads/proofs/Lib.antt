@@ -1,9 +1,9 @@
+pub mod Below
 pub mod Noting
 pub mod Telling
 pub mod Looking
 pub mod Checking
 pub mod Protecting
-pub mod Publishing
 pub mod Counted
 pub mod Referring
 pub mod Remaining

@@ -4,27 +4,27 @@ use Rattle.std.specs.Prelude.{slice_index_or, slice_set}
 use Rattle.std.proofs.lemmas.Bool.{cases_eq}
 use Rattle.std.proofs.lemmas.Bool.Decides.{nat_tests}
 use Rattle.std.proofs.lemmas.List.{get_or-set_same, get_or-set_other, set-get_or, set-set}
-use Rattle.plain_state.specs.declared.act.EventPlace.{EventPlace}
-use Rattle.plain_state.specs.declared.act.EventPlace.TheVariants.{Cell, Field, WeakCell, WeakField}
-use Rattle.plain_state.specs.declared.slot.Kind.{Kind}
-use Rattle.plain_state.specs.declared.slot.Kind.TheVariants.{Strong, Weak, Disposal}
-use Rattle.plain_state.specs.declared.slot.SlotId.{SlotId}
-use Rattle.plain_state.specs.Lists.{Entry, Gains, entry_times, times}
-use Rattle.plain_state.proofs.Kit.{entry_loses, entry_self}
-use Rattle.plain_protocol.specs.Owns.{HasSlot, Object}
-use Rattle.core_events.specs.declared.shape.Shape.{Shape}
-use Rattle.core_events.specs.declared.view.CoreView.{CoreView}
-use Rattle.core_events.specs.declared.view.Move.{Move}
-use Rattle.core_events.specs.declared.view.Note.{Note}
-use Rattle.core_events.specs.declared.view.Note.TheVariants as note
-use Rattle.core_events.specs.Shows.{show_seat}
-use Rattle.core_events.specs.ShownSteps.{releases}
-use Rattle.core_events.specs.Steps.{with_note}
-use Rattle.core_events.specs.Views.{CanReadFields, Holds, IsReadable, note_of, valid_of}
-use Rattle.core_law.proofs.Losing.{IsNotValid, valid_gains, valid_same}
-use Rattle.domain_rule.specs.Told.{changed_object}
-use Rattle.acquire_retire.specs.Domains.{DomainState}
-use Rattle.acquire_retire.specs.Seats.{SeatState}
+use Rattle.control_word.specs.plain_state.declared.act.EventPlace.{EventPlace}
+use Rattle.control_word.specs.plain_state.declared.act.EventPlace.TheVariants.{Cell, Field, WeakCell, WeakField}
+use Rattle.control_word.specs.plain_state.declared.slot.Kind.{Kind}
+use Rattle.control_word.specs.plain_state.declared.slot.Kind.TheVariants.{Strong, Weak, Disposal}
+use Rattle.control_word.specs.plain_state.declared.slot.SlotId.{SlotId}
+use Rattle.control_word.specs.plain_state.Lists.{Entry, Gains, entry_times, times}
+use Rattle.control_word.proofs.Below.plain_state.Kit.{entry_loses, entry_self}
+use Rattle.control_word.specs.plain_protocol.Owns.{HasSlot, Object}
+use Rattle.control_word.specs.core_events.declared.shape.Shape.{Shape}
+use Rattle.control_word.specs.core_events.declared.view.CoreView.{CoreView}
+use Rattle.control_word.specs.core_events.declared.view.Move.{Move}
+use Rattle.control_word.specs.core_events.declared.view.Note.{Note}
+use Rattle.control_word.specs.core_events.declared.view.Note.TheVariants as note
+use Rattle.control_word.specs.core_events.Shows.{show_seat}
+use Rattle.control_word.specs.core_events.ShownSteps.{releases}
+use Rattle.control_word.specs.core_events.Steps.{with_note}
+use Rattle.control_word.specs.core_events.Views.{CanReadFields, Holds, IsReadable, note_of, valid_of}
+use Rattle.control_word.proofs.Below.core_law.Losing.{IsNotValid, valid_gains, valid_same}
+use Rattle.control_word.specs.domain_rule.Told.{changed_object}
+use Rattle.control_word.specs.acquire_retire.Domains.{DomainState}
+use Rattle.control_word.specs.acquire_retire.Seats.{SeatState}
 use Rattle.control_word.specs.Resting.{IsAtRest, IsSettled}
 use Rattle.control_word.proofs.Becoming.{calling}
 

@@ -2,31 +2,31 @@
 use Rattle.std.proofs.Common.{◌≡◌, ⊎_elim, ℕ, ◌<◌, ◌+◌, List, length, ap, sym, ◌∙◌, subst, arith}
 use Rattle.std.specs.Prelude.{slice_index, Some}
 use Rattle.std.proofs.lemmas.Bool.Decides.{nat_tests}
-use Rattle.plain_state.specs.declared.act.EventPlace.{EventPlace}
-use Rattle.plain_state.specs.declared.act.PlainAct.{PlainAct}
-use Rattle.plain_state.specs.declared.slot.SlotId.{SlotId}
-use Rattle.plain_state.specs.Places.{content}
-use Rattle.plain_state.specs.State.{Plain, slot_at}
-use Rattle.plain_state.specs.Steps.{word_of}
-use Rattle.plain_protocol.specs.Owns.{HasSlot, OwnPart}
-use Rattle.core_events.specs.declared.act.Act.{Act}
-use Rattle.core_events.specs.declared.act.Act.TheVariants as act
-use Rattle.core_events.specs.declared.shape.Shape.{Shape}
-use Rattle.core_events.specs.declared.view.CoreView.{CoreView}
-use Rattle.core_events.specs.Good.{SeatLaw}
-use Rattle.core_events.specs.Runs.{Enabled, after, view_at}
-use Rattle.core_events.specs.Shows.{show_seat, shows}
-use Rattle.core_events.specs.ShownSteps.{shown_act, shown_number}
-use Rattle.core_events.specs.Views.{Holds, Terms}
-use Rattle.core_events.specs.Words.{place_at, slot_in}
-use Rattle.core_law.proofs.InRange.{content_in}
-use Rattle.core_law.proofs.Writes.{IsPlace}
-use Rattle.core_law.proofs.Events.{event_shows}
-use Rattle.core_law.proofs.ShownPlaces.{shown_content, word_slot}
-use Rattle.domain_rule.specs.declared.view.SeatView.{SeatView}
-use Rattle.domain_rule.specs.Told.{Told}
-use Rattle.domain_rule.specs.Views.{own_of}
-use Rattle.acquire_retire.proofs.Contents.{IsOn}
+use Rattle.control_word.specs.plain_state.declared.act.EventPlace.{EventPlace}
+use Rattle.control_word.specs.plain_state.declared.act.PlainAct.{PlainAct}
+use Rattle.control_word.specs.plain_state.declared.slot.SlotId.{SlotId}
+use Rattle.control_word.specs.plain_state.Places.{content}
+use Rattle.control_word.specs.plain_state.State.{Plain, slot_at}
+use Rattle.control_word.specs.plain_state.Steps.{word_of}
+use Rattle.control_word.specs.plain_protocol.Owns.{HasSlot, OwnPart}
+use Rattle.control_word.specs.core_events.declared.act.Act.{Act}
+use Rattle.control_word.specs.core_events.declared.act.Act.TheVariants as act
+use Rattle.control_word.specs.core_events.declared.shape.Shape.{Shape}
+use Rattle.control_word.specs.core_events.declared.view.CoreView.{CoreView}
+use Rattle.control_word.specs.core_events.Good.{SeatLaw}
+use Rattle.control_word.specs.core_events.Runs.{Enabled, after, view_at}
+use Rattle.control_word.specs.core_events.Shows.{show_seat, shows}
+use Rattle.control_word.specs.core_events.ShownSteps.{shown_act, shown_number}
+use Rattle.control_word.specs.core_events.Views.{Holds, Terms}
+use Rattle.control_word.specs.core_events.Words.{place_at, slot_in}
+use Rattle.control_word.proofs.Below.core_law.InRange.{content_in}
+use Rattle.control_word.proofs.Below.core_law.Writes.{IsPlace}
+use Rattle.control_word.proofs.Below.core_law.Events.{event_shows}
+use Rattle.control_word.proofs.Below.core_law.ShownPlaces.{shown_content, word_slot}
+use Rattle.control_word.specs.domain_rule.declared.view.SeatView.{SeatView}
+use Rattle.control_word.specs.domain_rule.Told.{Told}
+use Rattle.control_word.specs.domain_rule.Views.{own_of}
+use Rattle.control_word.proofs.Below.acquire_retire.Contents.{IsOn}
 use Rattle.control_word.proofs.Finding.{sound_before}
 
 module _ {V : Type 0} {fits : List ℕ → Type 0} {z : Shape} {ts : Terms}

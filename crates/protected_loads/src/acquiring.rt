@@ -1,21 +1,18 @@
 //! Protecting what a place holds.
 ghost use Rattle.std.specs.Prelude.{◌≡◌, ◌≢◌, ◌<◌, IfErr, IfOk, IfSome, None, Ok, Some};
-ghost use Rattle.plain_state.specs.Limits.{words_of_seat};
-ghost use Rattle.plain_state.specs.declared.slot.SlotId.{SlotId};
-ghost use Rattle.core_events.specs.declared.act.Act.TheVariants as act;
-ghost use Rattle.core_events.specs.declared.view.Note.TheVariants as stands;
-ghost use Rattle.core_events.specs.Steps.{HasRoom};
-ghost use Rattle.core_events.specs.Views.{IsReadable, note_of};
-ghost use Rattle.acquire_retire.specs.Calls.{IsOf, IsReady};
+ghost use Rattle.control_word.specs.plain_state.Limits.{words_of_seat};
+ghost use Rattle.control_word.specs.plain_state.declared.slot.SlotId.{SlotId};
+ghost use Rattle.control_word.specs.core_events.declared.act.Act.TheVariants as act;
+ghost use Rattle.control_word.specs.core_events.declared.view.Note.TheVariants as stands;
+ghost use Rattle.control_word.specs.core_events.Steps.{HasRoom};
+ghost use Rattle.control_word.specs.core_events.Views.{IsReadable, note_of};
+ghost use Rattle.control_word.specs.acquire_retire.Calls.{IsOf, IsReady};
 ghost use Rattle.control_word.specs.Moves.{KnowsStill};
 ghost use Rattle.control_word.specs.Resting.{IsAtRest};
 ghost use Rattle.protected_loads.specs.Loads.{FindsNull, IsReadyToCheck, Misses, Protects};
 
 use crate::where_null::WhereNull;
-use acquire_retire::{Domain, Outcome, Seat, SlotId};
-use core_functions::kind_of;
-use plain_protocol::{Deed, Protocol};
-use plain_state::EventPlace;
+use control_word::{Deed, Domain, EventPlace, Outcome, Protocol, Seat, SlotId, kind_of};
 
 /// What a place held at two steps, the second after the announcement of what it held at the first.
 #[derive(Clone, Copy, PartialEq, Eq, Debug, Drop)]

@@ -23,12 +23,15 @@ mod acquiring;
 mod loading;
 mod reacquiring;
 mod retrying;
-#[cfg(test)]
-mod tests;
 mod where_null;
 
-pub use acquire_retire::SlotId;
 pub use acquiring::{Moved, acquire};
+pub use control_word::{
+    AnyStep, Deed, Domain, Kind, LoadError, NoLaw, OpenError, OutOfMemory, PayloadKind, Place,
+    Protocol, Quota, RecordKind, Seat, Shape, SlotId, Spent, Still, UpgradeError, Weak, WeakPlace,
+    copy_strong, copy_weak, drop_strong, drop_weak, empty_image, held_as, open_domain, record_of,
+    strong_count, upgrade, weak_count, weaken,
+};
 pub use loading::{in_words, try_load};
 pub use reacquiring::acquire_at_last;
 pub use retrying::load;

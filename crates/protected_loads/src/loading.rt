@@ -1,23 +1,21 @@
 //! A reference to what a place holds, of the place's kind.
 ghost use Rattle.std.specs.Prelude.{ℕ, ◌≡◌, ◌<◌, ◌↔◌, Err, IfErr, IfOk};
-ghost use Rattle.plain_state.specs.Lists.{entry_times};
-ghost use Rattle.plain_state.specs.Places.{place_kind};
-ghost use Rattle.core_events.specs.Steps.{CanGive, HasAdd, HasRoom, IsIdle};
-ghost use Rattle.core_events.specs.Views.{IsReadable, snapshots};
-ghost use Rattle.core_events.specs.Words.{slot_in};
-ghost use Rattle.counted_handles.specs.declared.refusal.LoadError.TheVariants as refused;
-ghost use Rattle.acquire_retire.specs.Calls.{IsOf, IsSameView, Steps, same_view};
+ghost use Rattle.control_word.specs.plain_state.Lists.{entry_times};
+ghost use Rattle.control_word.specs.plain_state.Places.{place_kind};
+ghost use Rattle.control_word.specs.core_events.Steps.{CanGive, HasAdd, HasRoom, IsIdle};
+ghost use Rattle.control_word.specs.core_events.Views.{IsReadable, snapshots};
+ghost use Rattle.control_word.specs.core_events.Words.{slot_in};
+ghost use Rattle.control_word.specs.counted_handles.declared.refusal.LoadError.TheVariants as refused;
+ghost use Rattle.control_word.specs.acquire_retire.Calls.{IsOf, IsSameView, Steps, same_view};
 ghost use Rattle.control_word.specs.Moves.{KnowsStill};
 ghost use Rattle.control_word.specs.Resting.{IsAtRest, IsSpent};
 ghost use Rattle.protected_loads.specs.Loads.{Misses};
 ghost use Rattle.protected_loads.specs.References.{IsReadyToLoad, Loads, counted_as, counting};
 
 use crate::acquiring::{Moved, acquire};
-use acquire_retire::{Domain, Seat, SlotId};
-use core_functions::{held_as, kind_of};
-use counted_handles::LoadError;
-use plain_protocol::{Deed, Protocol, Still};
-use plain_state::{EventPlace, Kind};
+use control_word::{
+    Deed, Domain, EventPlace, Kind, LoadError, Protocol, Seat, SlotId, Still, held_as, kind_of,
+};
 
 /// The slot that the place holds, with one reference more to it, of the place's kind, which is the seat's. `Spent`
 /// comes first, exactly where the seat has used all adds of its quota, and then nothing has changed. `None` exactly

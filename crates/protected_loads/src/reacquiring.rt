@@ -1,20 +1,18 @@
 //! An acquire that goes on until the place holds still.
 ghost use Rattle.std.specs.Prelude.{◌≡◌, ◌≢◌, ◌<◌, Some};
-ghost use Rattle.plain_state.specs.Limits.{words_of_seat};
-ghost use Rattle.plain_state.specs.declared.slot.SlotId.{SlotId};
-ghost use Rattle.core_events.specs.declared.view.Note.TheVariants as stands;
-ghost use Rattle.core_events.specs.Steps.{HasRoom};
-ghost use Rattle.core_events.specs.Views.{IsReadable, note_of};
-ghost use Rattle.acquire_retire.specs.Calls.{IsOf};
+ghost use Rattle.control_word.specs.plain_state.Limits.{words_of_seat};
+ghost use Rattle.control_word.specs.plain_state.declared.slot.SlotId.{SlotId};
+ghost use Rattle.control_word.specs.core_events.declared.view.Note.TheVariants as stands;
+ghost use Rattle.control_word.specs.core_events.Steps.{HasRoom};
+ghost use Rattle.control_word.specs.core_events.Views.{IsReadable, note_of};
+ghost use Rattle.control_word.specs.acquire_retire.Calls.{IsOf};
 ghost use Rattle.control_word.specs.Moves.{KnowsStill};
 ghost use Rattle.control_word.specs.Resting.{IsAtRest};
 ghost use Rattle.protected_loads.specs.Retries.{AcquiresAtLast, IsReadyToReacquire};
 
 use crate::acquiring::acquire;
-use acquire_retire::{Domain, Seat, SlotId};
+use control_word::{Deed, Domain, EventPlace, Protocol, Seat, SlotId};
 use crossbeam_utils::Backoff;
-use plain_protocol::{Deed, Protocol};
-use plain_state::EventPlace;
 use std::sync::Wait;
 
 /// Protects what the place holds by a note of the seat that stands for nothing, as `acquire` does, which it tries again

@@ -1,18 +1,15 @@
 //! A load that goes on until the place holds still.
 ghost use Rattle.std.specs.Prelude.{◌≡◌, ◌↔◌, IfOk, IsErr, OnErr};
-ghost use Rattle.plain_state.specs.Places.{place_kind};
-ghost use Rattle.core_events.specs.Steps.{CanGive, HasRoom};
-ghost use Rattle.core_events.specs.Views.{IsReadable};
+ghost use Rattle.control_word.specs.plain_state.Places.{place_kind};
+ghost use Rattle.control_word.specs.core_events.Steps.{CanGive, HasRoom};
+ghost use Rattle.control_word.specs.core_events.Views.{IsReadable};
 ghost use Rattle.control_word.specs.Moves.{KnowsStill};
 ghost use Rattle.control_word.specs.Resting.{IsAtRest, IsSpent};
 ghost use Rattle.protected_loads.specs.Retries.{IsReadyToRetry, LoadsAtLast};
 
 use crate::loading::load_once;
-use acquire_retire::{Domain, Seat, SlotId};
-use counted_handles::Spent;
+use control_word::{Deed, Domain, EventPlace, Protocol, Seat, SlotId, Spent};
 use crossbeam_utils::Backoff;
-use plain_protocol::{Deed, Protocol};
-use plain_state::EventPlace;
 use std::sync::Wait;
 
 /// The slot that the place holds, with one reference more to it, of the place's kind, which is the seat's. It tries

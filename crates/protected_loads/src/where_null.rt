@@ -2,8 +2,7 @@
 ghost use Rattle.protected_loads.specs.Looks.{where_null_keeps};
 ghost use Rattle.protected_loads.specs.Nulls.{AllowsWhereNull, next_where_null, ready_to_look};
 
-use plain_protocol::{Deed, Protocol};
-use plain_state::EventPlace;
+use control_word::{Deed, EventPlace, Protocol};
 
 /// A deed, at the look that begins a load. Where the place is null that look is the load's only event, and the deed
 /// holds at it; else the deed waits for the check, and the look leaves the view as it is.

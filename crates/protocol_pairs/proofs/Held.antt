@@ -3,14 +3,14 @@ use Rattle.std.proofs.Common.{◌≡◌, ⊎_elim, ℕ, ◌<◌, length, get_or,
 use Rattle.std.specs.Prelude.{if◌then◌else◌}
 use Rattle.std.proofs.lemmas.List.{get_or_past}
 use Rattle.std.proofs.lemmas.Bool.{cases_lt, lt-ltb}
-use Rattle.plain_state.specs.declared.slot.PlainSlot.{PlainSlot}
-use Rattle.plain_state.specs.declared.slot.SlotId.{SlotId}
-use Rattle.plain_state.specs.declared.slot.Stage.TheVariants.{Live}
-use Rattle.plain_state.specs.Lawful.{Lawful}
-use Rattle.plain_state.specs.Places.{held_times}
-use Rattle.plain_state.specs.References.{held_in, strong_fields}
-use Rattle.plain_state.specs.State.{Plain, new_slot, seat_at, slot_at, stage_at}
-use Rattle.plain_state.proofs.Kit.{cells_at, held_self, slots_at}
+use Rattle.plain_protocol.specs.plain_state.declared.slot.PlainSlot.{PlainSlot}
+use Rattle.plain_protocol.specs.plain_state.declared.slot.SlotId.{SlotId}
+use Rattle.plain_protocol.specs.plain_state.declared.slot.Stage.TheVariants.{Live}
+use Rattle.plain_protocol.specs.plain_state.Lawful.{Lawful}
+use Rattle.plain_protocol.specs.plain_state.Places.{held_times}
+use Rattle.plain_protocol.specs.plain_state.References.{held_in, strong_fields}
+use Rattle.plain_protocol.specs.plain_state.State.{Plain, new_slot, seat_at, slot_at, stage_at}
+use Rattle.plain_protocol.proofs.Below.plain_state.Kit.{cells_at, held_self, slots_at}
 use Rattle.plain_protocol.specs.Owns.{HasSlot, object_of, own_part}
 
 is_held : (s : SlotId) (place : Option SlotId) → place ≡ Some s → held_in s place ≡ 1

@@ -1,11 +1,11 @@
 -- What a seat of a lawful state owns strongly lives.
 use Rattle.std.proofs.Common.{◌≡◌, ℕ, ◌<◌, length, arith}
-use Rattle.plain_state.specs.declared.slot.SlotId.{SlotId}
-use Rattle.plain_state.specs.declared.slot.Stage.TheVariants.{Live}
-use Rattle.plain_state.specs.Lawful.{Lawful}
-use Rattle.plain_state.specs.Lists.{times}
-use Rattle.plain_state.specs.State.{Plain, PlainSeat, seat_at, stage_at}
-use Rattle.plain_state.proofs.Kit.{seats_at}
+use Rattle.plain_protocol.specs.plain_state.declared.slot.SlotId.{SlotId}
+use Rattle.plain_protocol.specs.plain_state.declared.slot.Stage.TheVariants.{Live}
+use Rattle.plain_protocol.specs.plain_state.Lawful.{Lawful}
+use Rattle.plain_protocol.specs.plain_state.Lists.{times}
+use Rattle.plain_protocol.specs.plain_state.State.{Plain, PlainSeat, seat_at, stage_at}
+use Rattle.plain_protocol.proofs.Below.plain_state.Kit.{seats_at}
 
 pub owned_live : (p : Plain) (n : ℕ) (x : SlotId) → Lawful p → n < length p.seats
     → 0 < times x (seat_at p n).owned → stage_at p x ≡ Live

@@ -3,19 +3,19 @@ use Rattle.std.proofs.Common.{◌≡◌, ◌≢◌, ⊎_elim, ℕ, ◌<◌, Bool
 use Rattle.std.specs.Prelude.{slice_set, ◌==◌, if◌then◌else◌}
 use Rattle.std.proofs.lemmas.Bool.{cases_lt}
 use Rattle.std.proofs.lemmas.List.{get_or-set_same, get_or-set_other, get_or_past, set_past}
-use Rattle.plain_state.specs.declared.act.EventPlace.{EventPlace}
-use Rattle.plain_state.specs.declared.act.EventPlace.TheVariants.{Cell, Field, WeakCell, WeakField}
-use Rattle.plain_state.specs.declared.act.PlainAct.{PlainAct}
-use Rattle.plain_state.specs.declared.act.PlainAct.TheVariants as act
-use Rattle.plain_state.specs.declared.slot.PlainSlot.{PlainSlot}
-use Rattle.plain_state.specs.declared.slot.SlotId.{SlotId}
-use Rattle.plain_state.specs.Lawful.{Lawful}
-use Rattle.plain_state.specs.Lists.{cell_times}
-use Rattle.plain_state.specs.Places.{with_field}
-use Rattle.plain_state.specs.References.{held_in}
-use Rattle.plain_state.specs.State.{Plain, new_slot, slot_at}
-use Rattle.plain_state.specs.Steps.{Does, Replaces}
-use Rattle.plain_state.proofs.Kit.{cases_slot, cells_at, held_self}
+use Rattle.plain_protocol.specs.plain_state.declared.act.EventPlace.{EventPlace}
+use Rattle.plain_protocol.specs.plain_state.declared.act.EventPlace.TheVariants.{Cell, Field, WeakCell, WeakField}
+use Rattle.plain_protocol.specs.plain_state.declared.act.PlainAct.{PlainAct}
+use Rattle.plain_protocol.specs.plain_state.declared.act.PlainAct.TheVariants as act
+use Rattle.plain_protocol.specs.plain_state.declared.slot.PlainSlot.{PlainSlot}
+use Rattle.plain_protocol.specs.plain_state.declared.slot.SlotId.{SlotId}
+use Rattle.plain_protocol.specs.plain_state.Lawful.{Lawful}
+use Rattle.plain_protocol.specs.plain_state.Lists.{cell_times}
+use Rattle.plain_protocol.specs.plain_state.Places.{with_field}
+use Rattle.plain_protocol.specs.plain_state.References.{held_in}
+use Rattle.plain_protocol.specs.plain_state.State.{Plain, new_slot, slot_at}
+use Rattle.plain_protocol.specs.plain_state.Steps.{Does, Replaces}
+use Rattle.plain_protocol.proofs.Below.plain_state.Kit.{cases_slot, cells_at, held_self}
 use Rattle.plain_protocol.specs.Calm.{IsMade}
 use Rattle.plain_protocol.proofs.Calm.{calm_leaves}
 

@@ -1,7 +1,7 @@
 -- A step that leaves what a protocol owns keeps its law, with the view as it was.
 use Rattle.std.proofs.Common.{◌≡◌, List, refl, sym, subst}
 use Rattle.std.proofs.lemmas.List.{set-get_or}
-use Rattle.plain_state.specs.State.{Plain}
+use Rattle.plain_protocol.specs.plain_state.State.{Plain}
 use Rattle.plain_protocol.specs.Acts.{Owned}
 use Rattle.plain_protocol.specs.Laws.{KeptByForeign, Keeps}
 use Rattle.protocol_pairs.specs.Foreign.{spared_is_foreign}

@@ -1,8 +1,8 @@
 -- What a protocol owes that has another one as a part.
 use Rattle.std.specs.Prelude.{ℕ, ◌≡◌, ◌<◌, List, length, map, slice_index_or, slice_set}
-use Rattle.plain_state.specs.declared.act.PlainAct.{PlainAct}
-use Rattle.plain_state.specs.State.{Plain}
-use Rattle.plain_state.specs.Steps.{Does}
+use Rattle.plain_protocol.specs.plain_state.declared.act.PlainAct.{PlainAct}
+use Rattle.plain_protocol.specs.plain_state.State.{Plain}
+use Rattle.plain_protocol.specs.plain_state.Steps.{Does}
 use Rattle.plain_protocol.specs.Acts.{Owned}
 use Rattle.plain_protocol.specs.Laws.{Meets}
 use Rattle.plain_protocol.specs.Owns.{OwnPart, own_part}

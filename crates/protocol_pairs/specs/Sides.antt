@@ -3,8 +3,8 @@ use Rattle.std.proofs.Common.{◌≡◌, ℕ, List, [], ◌∷◌, map, get_or, 
 use Rattle.std.specs.Prelude.{slice_set}
 use Rattle.std.proofs.lemmas.List.{map-set, set-get_or, length-map, get_or-map}
 use Rattle.std.proofs.Math.ListN as lists
-use Rattle.plain_state.specs.declared.act.PlainAct.{PlainAct}
-use Rattle.plain_state.specs.State.{Plain}
+use Rattle.plain_protocol.specs.plain_state.declared.act.PlainAct.{PlainAct}
+use Rattle.plain_protocol.specs.plain_state.State.{Plain}
 use Rattle.plain_protocol.specs.Acts.{Owned}
 use Rattle.plain_protocol.specs.Laws.{KeptByForeign, Keeps}
 use Rattle.plain_protocol.specs.Owns.{OwnPart, own_part}

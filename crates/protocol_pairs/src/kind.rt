@@ -2,7 +2,7 @@
 ghost use Rattle.protocol_pairs.specs.Shares.{FitsItsPart, weight_in_part};
 ghost use Rattle.protocol_pairs.specs.Weights.{pair_bounded};
 
-use plain_state::PayloadKind;
+use plain_protocol::PayloadKind;
 use std::marker::PhantomData;
 
 /// A payload is the left part's exactly where its word 0 is 0. It fits and weighs what its part says.

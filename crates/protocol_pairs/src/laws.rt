@@ -1,9 +1,9 @@
 //! What a pair and its parts are, in a caller's words.
 ghost use Rattle.std.specs.Prelude.{◌≡◌, ◌↔◌, ◌⊎◌, ℕ, List};
-ghost use Rattle.plain_state.specs.declared.act.PlainAct.{PlainAct};
-ghost use Rattle.plain_state.specs.State.{Plain};
-ghost use Rattle.plain_state.specs.Lawful.{Lawful};
-ghost use Rattle.plain_state.specs.Steps.{Does};
+ghost use Rattle.plain_protocol.specs.plain_state.declared.act.PlainAct.{PlainAct};
+ghost use Rattle.plain_protocol.specs.plain_state.State.{Plain};
+ghost use Rattle.plain_protocol.specs.plain_state.Lawful.{Lawful};
+ghost use Rattle.plain_protocol.specs.plain_state.Steps.{Does};
 ghost use Rattle.plain_protocol.specs.Acts.{IsCalm, IsForeign};
 ghost use Rattle.plain_protocol.specs.Owns.{OwnPart, own_part};
 ghost use Rattle.protocol_pairs.specs.Shares.{IsLeftPayload, owned_of};
@@ -15,8 +15,7 @@ use crate::in_part::InPart;
 use crate::kind::PairKind;
 use crate::pair::Pair;
 use crate::part::{Left, Part, Right};
-use plain_protocol::{Deed, Protocol};
-use plain_state::PayloadKind;
+use plain_protocol::{Deed, PayloadKind, Protocol};
 
 /// A step that a seat sees to be foreign to a protocol, by the payloads of the slots that it has, is so in the plain
 /// state. The call does nothing.

@@ -23,8 +23,6 @@ mod pair;
 mod part;
 mod sides;
 mod spares;
-#[cfg(test)]
-mod tests;
 
 pub use in_part::InPart;
 pub use kind::PairKind;
@@ -35,4 +33,5 @@ pub use laws::{
 };
 pub use pair::Pair;
 pub use part::{Left, Part, Right, Whole};
+pub use plain_protocol::{Deed, PayloadKind, Protocol, Still};
 pub use spares::Spares;

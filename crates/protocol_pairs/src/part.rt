@@ -1,6 +1,6 @@
 //! Protocols that have another one as a part.
 ghost use Rattle.std.specs.Prelude.{ℕ, List};
-ghost use Rattle.plain_state.specs.declared.act.PlainAct.{PlainAct};
+ghost use Rattle.plain_protocol.specs.plain_state.declared.act.PlainAct.{PlainAct};
 ghost use Rattle.plain_protocol.specs.Owns.{OwnPart};
 ghost use Rattle.protocol_pairs.specs.Shares.{owned_of};
 ghost use Rattle.protocol_pairs.specs.Parts.{HasPart, KeepsRest, Reads, PutsBack, PutsOver, Frees, FitsWhole};

@@ -1,9 +1,9 @@
 -- The advance of the tail, in a linked queue.
 use Rattle.std.proofs.Common.{◌≡◌, ◌≢◌, inl, inr, ⊎_elim, ℕ, ◌+◌, ◌-◌, ◌<◌, ◌≤◌, true, List, length, set, refl, ap, sym, ◌∙◌, subst, arith}
 use Rattle.std.proofs.lemmas.Bool.{cases_lt, false≢true}
-use Rattle.plain_state.specs.State.{Plain, seat_at}
-use Rattle.plain_state.specs.Lawful.{Lawful}
-use Rattle.plain_state.specs.Steps.{Does}
+use Rattle.plain_protocol.specs.plain_state.State.{Plain, seat_at}
+use Rattle.plain_protocol.specs.plain_state.Lawful.{Lawful}
+use Rattle.plain_protocol.specs.plain_state.Steps.{Does}
 use Rattle.plain_protocol.specs.Owns.{own_part}
 use Rattle.queue_law.specs.Words.{slot_at, cell_at, held_times, life_in}
 use Rattle.queue_law.specs.Views.{Linked, Taken, View, Load, sees_node, view_at}

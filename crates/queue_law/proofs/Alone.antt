@@ -2,7 +2,7 @@
 use Rattle.std.proofs.Common.{◌≡◌, ◌≢◌, ◌⊎◌, inl, inr, ⊎_elim, ℕ, zero, suc, ◌+◌, ◌-◌, ◌<◌, ◌≤◌, Bool, true, false, List, [], ◌∷◌, length, get_or, drop, refl, ap, sym, ◌∙◌, arith, Some, None}
 use Rattle.std.specs.Prelude.{◌==◌, ◌&&◌, if◌then◌else◌}
 use Rattle.std.proofs.lemmas.Bool.{cases_lt, false≢true, eqb-true}
-use Rattle.plain_state.specs.State.{Plain, PlainSeat, seat_at, new_seat}
+use Rattle.plain_protocol.specs.plain_state.State.{Plain, PlainSeat, seat_at, new_seat}
 use Rattle.plain_protocol.specs.Owns.{own_part}
 use Rattle.queue_law.specs.Views.{View, first_view, view_at}
 use Rattle.queue_law.specs.Lists.{views_total}

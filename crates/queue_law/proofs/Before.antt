@@ -2,10 +2,10 @@
 use Rattle.std.proofs.Common.{◌≡◌, ⊎_elim, ℕ, ◌+◌, ◌-◌, ◌<◌, ◌≤◌, true, List, length, set, ap, sym, ◌∙◌, subst, arith}
 use Rattle.std.specs.Prelude.{◌==◌}
 use Rattle.std.proofs.lemmas.Bool.{cases_eq, cases_lt, false≢true, eqb-true}
-use Rattle.plain_state.specs.State.{Plain, seat_at}
-use Rattle.plain_state.specs.Lawful.{Lawful}
-use Rattle.plain_state.specs.Steps.{Does}
-use Rattle.plain_state.specs.declared.act.PlainAct.TheVariants as act
+use Rattle.plain_protocol.specs.plain_state.State.{Plain, seat_at}
+use Rattle.plain_protocol.specs.plain_state.Lawful.{Lawful}
+use Rattle.plain_protocol.specs.plain_state.Steps.{Does}
+use Rattle.plain_protocol.specs.plain_state.declared.act.PlainAct.TheVariants as act
 use Rattle.plain_protocol.specs.Owns.{own_part}
 use Rattle.queue_law.specs.Words.{slot_at, strong_refs, held_times, life_in, id, first_of, back_of}
 use Rattle.queue_law.specs.Views.{Double, Taken, View, view_at}

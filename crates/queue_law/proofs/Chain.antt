@@ -1,7 +1,7 @@
 -- The chain of nodes: what is there, what leads on, and what was linked.
 use Rattle.std.proofs.Common.{◌≡◌, ◌≢◌, ◌⊎◌, inl, inr, ⊎_elim, ℕ, zero, suc, ◌+◌, ◌-◌, ◌<◌, ◌≤◌, List, [], ◌∷◌, ◌++◌, length, ap, sym, ◌∙◌, subst, arith}
 use Rattle.std.proofs.lemmas.Bool.{cases_lt}
-use Rattle.plain_state.specs.State.{Plain}
+use Rattle.plain_protocol.specs.plain_state.State.{Plain}
 use Rattle.queue_law.specs.Words.{slot_at, cell_at, Live}
 use Rattle.queue_law.specs.Views.{Form, Linked, Double, Item}
 use Rattle.queue_law.specs.Chain.{Ends, Sent, no_sent, sent, Present, Leads, Solid, Missing, Lags, HoldsItem, IsKnown, IsNode, WasLinked, HeadAt, TailAt, Chain}

@@ -1,7 +1,7 @@
 -- Calm steps keep the chain, and so does the setting of the missing link.
 use Rattle.std.proofs.Common.{◌≡◌, ◌≢◌, ◌⊎◌, inl, inr, ⊎_elim, ℕ, ◌+◌, ◌-◌, ◌<◌, List, length, ap, sym, ◌∙◌, subst, arith}
 use Rattle.std.proofs.lemmas.Bool.{cases_eq}
-use Rattle.plain_state.specs.State.{Plain}
+use Rattle.plain_protocol.specs.plain_state.State.{Plain}
 use Rattle.queue_law.specs.Words.{slot_at, strong_refs}
 use Rattle.queue_law.specs.Chain.{Ends, Sent, sent, Present, Leads, Solid, Missing, WasLinked, HeadAt, TailAt, Chain}
 use Rattle.queue_law.specs.Writes.{FirstSet, Quiet}

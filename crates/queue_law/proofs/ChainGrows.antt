@@ -1,7 +1,7 @@
 -- A node is linked: by the exchange of the tail cell, or by field 0 of the last node.
 use Rattle.std.proofs.Common.{◌≡◌, ◌≢◌, ◌⊎◌, inl, inr, ⊎_elim, ℕ, ◌+◌, ◌<◌, ◌≤◌, List, [], ◌∷◌, ◌++◌, length, refl, ap, sym, ◌∙◌, subst, arith}
 use Rattle.std.proofs.lemmas.Bool.{cases_lt}
-use Rattle.plain_state.specs.State.{Plain}
+use Rattle.plain_protocol.specs.plain_state.State.{Plain}
 use Rattle.queue_law.specs.Words.{slot_at, cell_at}
 use Rattle.queue_law.specs.Views.{Linked, Double}
 use Rattle.queue_law.specs.Chain.{Ends, Sent, sent, Present, Leads, Solid, BacksTo, HasItem, IsKnown, IsNode, WasLinked, HeadAt, Chain}

@@ -1,7 +1,7 @@
 -- Writes of cells, of fields 1 and of weak fields keep the chain.
 use Rattle.std.proofs.Common.{◌≡◌, ◌≢◌, ◌⊎◌, inl, inr, ⊎_elim, ℕ, ◌+◌, ◌<◌, List, length, sym, ◌∙◌, subst, arith}
 use Rattle.std.proofs.lemmas.Bool.{cases_eq}
-use Rattle.plain_state.specs.State.{Plain}
+use Rattle.plain_protocol.specs.plain_state.State.{Plain}
 use Rattle.queue_law.specs.Words.{slot_at, cell_at}
 use Rattle.queue_law.specs.Views.{Linked}
 use Rattle.queue_law.specs.Chain.{Ends, Sent, sent, Present, Leads, Missing, Lags, WasLinked, HeadAt, TailAt, Chain}

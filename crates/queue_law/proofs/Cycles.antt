@@ -1,7 +1,7 @@
 -- No node reaches itself along field 0.
 use Rattle.std.proofs.Common.{◌≡◌, ⊎_elim, ℕ, zero, suc, ◌+◌, ◌<◌, List, length, ap, sym, ◌∙◌, subst, arith}
 use Rattle.std.proofs.lemmas.Bool.{cases_lt}
-use Rattle.plain_state.specs.State.{Plain, no_payload}
+use Rattle.plain_protocol.specs.plain_state.State.{Plain, no_payload}
 use Rattle.queue_law.specs.Words.{slot_at, Live}
 use Rattle.queue_law.specs.Views.{View}
 use Rattle.queue_law.specs.Chain.{Ends, Sent, sent, Present, WasLinked, Chain}

@@ -1,8 +1,8 @@
 -- All deeds, as a protocol asks for them.
 use Rattle.std.proofs.Common.{◌≢◌, ⊎_elim, ℕ, true, false, sym, ◌∙◌}
-use Rattle.plain_state.specs.declared.act.EventPlace.{EventPlace}
-use Rattle.plain_state.specs.declared.act.PlainAct.{PlainAct}
-use Rattle.plain_state.specs.declared.act.PlainAct.TheVariants as act
+use Rattle.plain_protocol.specs.plain_state.declared.act.EventPlace.{EventPlace}
+use Rattle.plain_protocol.specs.plain_state.declared.act.PlainAct.{PlainAct}
+use Rattle.plain_protocol.specs.plain_state.declared.act.PlainAct.TheVariants as act
 use Rattle.queue_law.specs.Views.{first_view}
 use Rattle.queue_law.specs.Chain.{Ends}
 use Rattle.queue_law.specs.Law.{WholeLaw}

@@ -2,17 +2,17 @@
 use Rattle.std.proofs.Common.{◌≡◌, ◌≢◌, ◌⊎◌, inl, inr, ⊎_elim, ℕ, ◌+◌, ◌<◌, length, get_or, set, refl, ap, sym, ◌∙◌, subst, arith, Option, Some, None}
 use Rattle.std.proofs.lemmas.List.{get_or-set_same, get_or-set_other, get_or_past}
 use Rattle.std.proofs.lemmas.Bool.{cases_eq, cases_lt}
-use Rattle.plain_state.specs.declared.act.EventPlace.TheVariants.{Cell}
-use Rattle.plain_state.specs.declared.act.PlainAct.{PlainAct}
-use Rattle.plain_state.specs.declared.act.PlainAct.TheVariants as act
-use Rattle.plain_state.specs.declared.slot.SlotId.{SlotId}
-use Rattle.plain_state.specs.declared.slot.PlainSlot.{PlainSlot}
-use Rattle.plain_state.specs.declared.slot.Kind.TheVariants.{Strong}
-use Rattle.plain_state.specs.State.{Plain, PlainSeat, seat_at, new_slot, with_slot}
-use Rattle.plain_state.specs.State as state
-use Rattle.plain_state.specs.Lawful.{Lawful}
-use Rattle.plain_state.specs.Steps.{word_of, Does, Replaces, GivesUp}
-use Rattle.plain_state.proofs.Kit.{times_lost}
+use Rattle.plain_protocol.specs.plain_state.declared.act.EventPlace.TheVariants.{Cell}
+use Rattle.plain_protocol.specs.plain_state.declared.act.PlainAct.{PlainAct}
+use Rattle.plain_protocol.specs.plain_state.declared.act.PlainAct.TheVariants as act
+use Rattle.plain_protocol.specs.plain_state.declared.slot.SlotId.{SlotId}
+use Rattle.plain_protocol.specs.plain_state.declared.slot.PlainSlot.{PlainSlot}
+use Rattle.plain_protocol.specs.plain_state.declared.slot.Kind.TheVariants.{Strong}
+use Rattle.plain_protocol.specs.plain_state.State.{Plain, PlainSeat, seat_at, new_slot, with_slot}
+use Rattle.plain_protocol.specs.plain_state.State as state
+use Rattle.plain_protocol.specs.plain_state.Lawful.{Lawful}
+use Rattle.plain_protocol.specs.plain_state.Steps.{word_of, Does, Replaces, GivesUp}
+use Rattle.plain_protocol.proofs.Below.plain_state.Kit.{times_lost}
 use Rattle.plain_protocol.specs.Acts.{IsCalm}
 use Rattle.plain_protocol.proofs.Calm.{calm_leaves}
 use Rattle.queue_law.proofs.Quiet as quiet

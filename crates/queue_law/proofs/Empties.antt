@@ -1,6 +1,6 @@
 -- Where nothing is linked and no push is in flight, all was popped.
 use Rattle.std.proofs.Common.{◌≡◌, ⊎_elim, ℕ, List, [], ◌∷◌, refl, ap, sym, ◌∙◌, arith}
-use Rattle.plain_state.specs.State.{Plain}
+use Rattle.plain_protocol.specs.plain_state.State.{Plain}
 use Rattle.queue_law.specs.Words.{slot_at}
 use Rattle.queue_law.specs.Views.{Item, View, no_item}
 use Rattle.queue_law.specs.Chain.{Ends}

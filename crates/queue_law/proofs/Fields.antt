@@ -1,7 +1,7 @@
 -- The writes of field 1 and of the weak field.
 use Rattle.std.proofs.Common.{◌≡◌, ◌≢◌, inr, ℕ, ◌+◌, ◌-◌, ◌<◌, List, length, set, refl, ap, sym, ◌∙◌, subst, arith, Some, None}
-use Rattle.plain_state.specs.State.{Plain, seat_at}
-use Rattle.plain_state.specs.Steps.{Does}
+use Rattle.plain_protocol.specs.plain_state.State.{Plain, seat_at}
+use Rattle.plain_protocol.specs.plain_state.Steps.{Does}
 use Rattle.plain_protocol.specs.Owns.{own_part}
 use Rattle.queue_law.specs.Words.{slot_at, cell_at, held_times, life_in, payload_in, id}
 use Rattle.queue_law.specs.Views.{Taken, View, Load, view_at}

@@ -1,16 +1,16 @@
 -- Foreign steps keep the law.
 use Rattle.std.proofs.Common.{◌≡◌, ◌≢◌, inl, inr, ⊎_elim, ℕ, ◌+◌, Bool, true, false, List, length, get_or, refl, ap, sym, ◌∙◌, subst, arith, Option, None}
 use Rattle.std.specs.Prelude.{cond, ◌==◌, ◌&&◌, nat_lt, if◌then◌else◌}
-use Rattle.plain_state.specs.State.{Plain, PlainSeat, seat_at, new_seat, new_slot, no_payload}
-use Rattle.plain_state.specs.Lawful.{Lawful}
-use Rattle.plain_state.specs.Steps.{Does, Replaces, word_of}
-use Rattle.plain_state.specs.Places.{content, IsOpen, IsReadable}
-use Rattle.plain_state.specs.declared.slot.SlotId.{SlotId}
-use Rattle.plain_state.specs.declared.slot.PlainSlot.{PlainSlot}
-use Rattle.plain_state.specs.declared.act.EventPlace.{EventPlace}
-use Rattle.plain_state.specs.declared.act.EventPlace.TheVariants.{Cell, Field, WeakCell, WeakField}
-use Rattle.plain_state.specs.declared.act.PlainAct.{PlainAct}
-use Rattle.plain_state.specs.declared.act.PlainAct.TheVariants as act
+use Rattle.plain_protocol.specs.plain_state.State.{Plain, PlainSeat, seat_at, new_seat, new_slot, no_payload}
+use Rattle.plain_protocol.specs.plain_state.Lawful.{Lawful}
+use Rattle.plain_protocol.specs.plain_state.Steps.{Does, Replaces, word_of}
+use Rattle.plain_protocol.specs.plain_state.Places.{content, IsOpen, IsReadable}
+use Rattle.plain_protocol.specs.plain_state.declared.slot.SlotId.{SlotId}
+use Rattle.plain_protocol.specs.plain_state.declared.slot.PlainSlot.{PlainSlot}
+use Rattle.plain_protocol.specs.plain_state.declared.act.EventPlace.{EventPlace}
+use Rattle.plain_protocol.specs.plain_state.declared.act.EventPlace.TheVariants.{Cell, Field, WeakCell, WeakField}
+use Rattle.plain_protocol.specs.plain_state.declared.act.PlainAct.{PlainAct}
+use Rattle.plain_protocol.specs.plain_state.declared.act.PlainAct.TheVariants as act
 use Rattle.plain_protocol.specs.Acts.{IsCalm, IsForeign}
 use Rattle.queue_law.specs.Words.{slot_at, code, id}
 use Rattle.queue_law.specs.Views.{Taken, View, view_at}
@@ -18,8 +18,8 @@ use Rattle.queue_law.specs.Chain.{Ends, Sent, sent, Present, Leads, WasLinked, C
 use Rattle.queue_law.specs.Law.{Queue, QueueLaw}
 use Rattle.queue_law.specs.Writes.{CellSet, Quiet, Aside}
 use Rattle.queue_law.specs.Owned.{owns}
-use Rattle.plain_state.specs.State as state
-use Rattle.plain_state.specs.Places.{with_field}
+use Rattle.plain_protocol.specs.plain_state.State as state
+use Rattle.plain_protocol.specs.plain_state.Places.{with_field}
 use Rattle.queue_law.proofs.Kit.{held_live}
 use Rattle.queue_law.proofs.Effects.{calm_quiet, live_range, Wrote, wrote, wrote_objects, slots_of, cells_of, replaced_cell, makes}
 use Rattle.queue_law.proofs.Chain.{chain_present, same_solid, same_has, same_known, same_is_node, same_tail}
@@ -177,7 +177,7 @@ with_field_same {A} f i new x a b = go (i == 0)
     go false = b new
 
 foreign_write : (u : Ends) (p q : Plain) (n : ℕ) (at : EventPlace) (new : Option SlotId) → Lawful p
-    → IsForeign (owns u) p (act.Replace at new) → Rattle.plain_state.specs.Places.IsOpen p n at
+    → IsForeign (owns u) p (act.Replace at new) → Rattle.plain_protocol.specs.plain_state.Places.IsOpen p n at
     → Replaces p n at new q → Aside u p q
 foreign_write u p q n (Cell c) new lawful f o r = cell_aside u p q c (word_of new)
     (replaced_cell p q n c new o r) (λ e. f (inl e)) (λ e. f (inr e))

@@ -2,7 +2,7 @@
 use Rattle.std.proofs.Common.{◌≡◌, ◌≢◌, inl, inr, ⊎_elim, ℕ, zero, suc, ◌+◌, ◌-◌, ◌<◌, ◌≤◌, List, [], ◌∷◌, ◌++◌, length, get_or, drop, map, refl, ap, sym, ◌∙◌, subst, arith}
 use Rattle.std.specs.Prelude.{cond}
 use Rattle.std.proofs.lemmas.Bool.{cases_lt}
-use Rattle.plain_state.specs.State.{Plain}
+use Rattle.plain_protocol.specs.plain_state.State.{Plain}
 use Rattle.queue_law.specs.Words.{slot_at, cell_at}
 use Rattle.queue_law.specs.Views.{Item, Taken, View, no_item, view_at}
 use Rattle.queue_law.specs.Chain.{Ends, Sent, no_sent, sent, Leads, Missing, HeadAt, TailAt, Chain}

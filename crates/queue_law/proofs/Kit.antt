@@ -3,20 +3,20 @@ use Rattle.std.proofs.Common.{◌≡◌, ⊎_elim, ℕ, ◌+◌, ◌<◌, false,
 use Rattle.std.specs.Prelude.{if◌then◌else◌}
 use Rattle.std.proofs.lemmas.List.{get_or_past}
 use Rattle.std.proofs.lemmas.Bool.{cases_lt, lt-ltb}
-use Rattle.plain_state.specs.declared.slot.SlotId.{SlotId}
-use Rattle.plain_state.specs.declared.slot.PlainSlot.{PlainSlot}
-use Rattle.plain_state.specs.declared.slot.Kind.TheVariants.{Strong}
-use Rattle.plain_state.specs.declared.slot.Stage.{Stage}
-use Rattle.plain_state.specs.declared.slot.Stage.TheVariants as stage
-use Rattle.plain_state.specs.Lists.{entry_times, cell_times}
-use Rattle.plain_state.specs.Lists as lists
-use Rattle.plain_state.specs.References.{held_in, strong_fields, weak_fields}
-use Rattle.plain_state.specs.State.{Plain, PlainSeat, seat_at, new_seat, new_slot}
-use Rattle.plain_state.specs.State as state
-use Rattle.plain_state.specs.Lawful.{Lawful}
-use Rattle.plain_state.specs.Steps.{word_of}
-use Rattle.plain_state.specs.Places as places
-use Rattle.plain_state.proofs.Kit.{slot_is, held_same, cells_at, slots_at, seats_at, times_none, entry_none}
+use Rattle.plain_protocol.specs.plain_state.declared.slot.SlotId.{SlotId}
+use Rattle.plain_protocol.specs.plain_state.declared.slot.PlainSlot.{PlainSlot}
+use Rattle.plain_protocol.specs.plain_state.declared.slot.Kind.TheVariants.{Strong}
+use Rattle.plain_protocol.specs.plain_state.declared.slot.Stage.{Stage}
+use Rattle.plain_protocol.specs.plain_state.declared.slot.Stage.TheVariants as stage
+use Rattle.plain_protocol.specs.plain_state.Lists.{entry_times, cell_times}
+use Rattle.plain_protocol.specs.plain_state.Lists as lists
+use Rattle.plain_protocol.specs.plain_state.References.{held_in, strong_fields, weak_fields}
+use Rattle.plain_protocol.specs.plain_state.State.{Plain, PlainSeat, seat_at, new_seat, new_slot}
+use Rattle.plain_protocol.specs.plain_state.State as state
+use Rattle.plain_protocol.specs.plain_state.Lawful.{Lawful}
+use Rattle.plain_protocol.specs.plain_state.Steps.{word_of}
+use Rattle.plain_protocol.specs.plain_state.Places as places
+use Rattle.plain_protocol.proofs.Below.plain_state.Kit.{slot_is, held_same, cells_at, slots_at, seats_at, times_none, entry_none}
 use Rattle.plain_protocol.specs.Owns.{own_part, object_of}
 use Rattle.queue_law.specs.Words.{slot_at, cell_at, code, Live, LIVE, strong_refs, weak_refs, times, held_times, life_of, payload_of, life_in, payload_in, id}
 

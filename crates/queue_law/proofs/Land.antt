@@ -1,7 +1,7 @@
 -- The writes of a missing link: the end of a push, and the help.
 use Rattle.std.proofs.Common.{◌≡◌, inr, ⊎_elim, ℕ, ◌+◌, ◌<◌, true, List, length, set, refl, ap, sym, ◌∙◌, subst, arith}
-use Rattle.plain_state.specs.State.{Plain}
-use Rattle.plain_state.specs.Steps.{Does}
+use Rattle.plain_protocol.specs.plain_state.State.{Plain}
+use Rattle.plain_protocol.specs.plain_state.Steps.{Does}
 use Rattle.queue_law.specs.Words.{slot_at, Live}
 use Rattle.queue_law.specs.Views.{Taken, View, Eyes, Flight, no_flight, view_at}
 use Rattle.queue_law.specs.Chain.{Ends, Sent, sent, Present, Leads}

@@ -1,9 +1,9 @@
 -- The dummy is laid into the tail cell, and then into the head cell.
 use Rattle.std.proofs.Common.{◌≡◌, ◌≢◌, inl, inr, ⊎_elim, ℕ, zero, suc, ◌+◌, ◌<◌, List, [], ◌∷◌, length, set, refl, ap, sym, ◌∙◌, subst, arith}
 use Rattle.std.proofs.lemmas.Bool.{false≢true}
-use Rattle.plain_state.specs.State.{Plain, seat_at, no_payload}
-use Rattle.plain_state.specs.Lawful.{Lawful}
-use Rattle.plain_state.specs.Steps.{Does}
+use Rattle.plain_protocol.specs.plain_state.State.{Plain, seat_at, no_payload}
+use Rattle.plain_protocol.specs.plain_state.Lawful.{Lawful}
+use Rattle.plain_protocol.specs.plain_state.Steps.{Does}
 use Rattle.plain_protocol.specs.Owns.{own_part}
 use Rattle.queue_law.specs.Words.{slot_at, cell_at, Live, times}
 use Rattle.queue_law.specs.Views.{Form, Linked, Double, View, Load, no_item, sees_node, no_load, view_at}

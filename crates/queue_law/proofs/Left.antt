@@ -1,20 +1,20 @@
 -- Who has left: no step but a leave changes it.
 use Rattle.std.proofs.Common.{◌≡◌, ◌≢◌, ◌⊎◌, inl, inr, ⊎_elim, ℕ, ◌≤◌, true, List, length, get_or, set, refl, ap, sym, ◌∙◌, arith, Option, Some, None}
 use Rattle.std.proofs.lemmas.Bool.{cases_eq, cases_lt, false≢true}
-use Rattle.plain_state.specs.State.{Plain, PlainSeat, seat_at, new_seat}
-use Rattle.plain_state.specs.Steps.{Does, Replaces}
-use Rattle.plain_state.specs.declared.slot.SlotId.{SlotId}
-use Rattle.plain_state.specs.declared.act.EventPlace.{EventPlace}
-use Rattle.plain_state.specs.declared.act.EventPlace.TheVariants.{Cell, Field, WeakCell, WeakField}
-use Rattle.plain_state.specs.declared.act.PlainAct.{PlainAct}
-use Rattle.plain_state.specs.declared.act.PlainAct.TheVariants as act
+use Rattle.plain_protocol.specs.plain_state.State.{Plain, PlainSeat, seat_at, new_seat}
+use Rattle.plain_protocol.specs.plain_state.Steps.{Does, Replaces}
+use Rattle.plain_protocol.specs.plain_state.declared.slot.SlotId.{SlotId}
+use Rattle.plain_protocol.specs.plain_state.declared.act.EventPlace.{EventPlace}
+use Rattle.plain_protocol.specs.plain_state.declared.act.EventPlace.TheVariants.{Cell, Field, WeakCell, WeakField}
+use Rattle.plain_protocol.specs.plain_state.declared.act.PlainAct.{PlainAct}
+use Rattle.plain_protocol.specs.plain_state.declared.act.PlainAct.TheVariants as act
 use Rattle.queue_law.specs.Views.{View}
 use Rattle.queue_law.specs.Law.{Gone}
 use Rattle.std.proofs.lemmas.List.{get_or-set_same, get_or-set_other, set_past, length-set}
-use Rattle.plain_state.specs.Places.{with_content, place_kind}
-use Rattle.plain_state.specs.Steps.{GivesUp}
-use Rattle.plain_state.specs.declared.slot.Kind.{Kind}
-use Rattle.plain_state.specs.declared.slot.Kind.TheVariants.{Strong, Weak, Disposal}
+use Rattle.plain_protocol.specs.plain_state.Places.{with_content, place_kind}
+use Rattle.plain_protocol.specs.plain_state.Steps.{GivesUp}
+use Rattle.plain_protocol.specs.plain_state.declared.slot.Kind.{Kind}
+use Rattle.plain_protocol.specs.plain_state.declared.slot.Kind.TheVariants.{Strong, Weak, Disposal}
 use Rattle.queue_law.proofs.Notes.{view_else}
 
 -- a write of a seat that doesn't say that it leaves

@@ -1,10 +1,10 @@
 -- An object is made: by another part of a client, or a node by the queue.
 use Rattle.std.proofs.Common.{◌≡◌, ◌≢◌, inl, inr, ⊎_elim, ℕ, ◌+◌, ◌<◌, ◌≤◌, List, length, set, refl, ap, sym, ◌∙◌, subst, arith}
 use Rattle.std.proofs.lemmas.Bool.{cases_eq}
-use Rattle.plain_state.specs.State.{Plain, seat_at}
-use Rattle.plain_state.specs.Lawful.{Lawful}
-use Rattle.plain_state.specs.Steps.{Does}
-use Rattle.plain_state.specs.declared.act.PlainAct.TheVariants as act
+use Rattle.plain_protocol.specs.plain_state.State.{Plain, seat_at}
+use Rattle.plain_protocol.specs.plain_state.Lawful.{Lawful}
+use Rattle.plain_protocol.specs.plain_state.Steps.{Does}
+use Rattle.plain_protocol.specs.plain_state.declared.act.PlainAct.TheVariants as act
 use Rattle.plain_protocol.specs.Owns.{own_part}
 use Rattle.queue_law.specs.Words.{SlotPart, slot_at, Live, life_in, payload_in, id}
 use Rattle.queue_law.specs.Views.{Taken, View, view_at}
@@ -14,8 +14,8 @@ use Rattle.queue_law.specs.Law.{Queue, QueueLaw}
 use Rattle.queue_law.specs.Writes.{Makes}
 use Rattle.queue_law.specs.Owned.{Keeps}
 use Rattle.queue_law.specs.Nodes.{MakeReady, make_next, made}
-use Rattle.plain_state.specs.References.{held_in}
-use Rattle.plain_state.proofs.Kit.{held_same}
+use Rattle.plain_protocol.specs.plain_state.References.{held_in}
+use Rattle.plain_protocol.proofs.Below.plain_state.Kit.{held_same}
 use Rattle.queue_law.proofs.Kit.{refs_second, referred, knows_times, knows_life, knows_payload}
 use Rattle.queue_law.proofs.Effects.{makes}
 use Rattle.queue_law.proofs.Chain.{chain_present}

@@ -1,7 +1,7 @@
 -- What seats know goes on to hold.
 use Rattle.std.proofs.Common.{◌≡◌, ◌≢◌, ⊎_elim, ℕ, ◌+◌, ◌<◌, ◌≤◌, true, List, [], ◌∷◌, ◌++◌, length, set, refl, ap, sym, ◌∙◌, subst, arith}
 use Rattle.std.proofs.lemmas.Bool.{cases_eq}
-use Rattle.plain_state.specs.State.{Plain}
+use Rattle.plain_protocol.specs.plain_state.State.{Plain}
 use Rattle.queue_law.specs.Words.{slot_at, cell_at, Live}
 use Rattle.queue_law.specs.Views.{View, Eyes, Load, Flight, first_view, view_at}
 use Rattle.queue_law.specs.Chain.{Ends, Sent, sent, Present, Leads, WasLinked}

@@ -1,7 +1,7 @@
 -- What every push does to the law: the history gains the seat's own node.
 use Rattle.std.proofs.Common.{◌≡◌, ◌≢◌, ⊎_elim, ℕ, ◌+◌, ◌-◌, ◌<◌, ◌≤◌, List, [], ◌∷◌, ◌++◌, length, set, refl, ap, sym, ◌∙◌, subst, arith}
-use Rattle.plain_state.specs.State.{Plain, seat_at}
-use Rattle.plain_state.specs.Lawful.{Lawful}
+use Rattle.plain_protocol.specs.plain_state.State.{Plain, seat_at}
+use Rattle.plain_protocol.specs.plain_state.Lawful.{Lawful}
 use Rattle.plain_protocol.specs.Owns.{own_part}
 use Rattle.queue_law.specs.Words.{slot_at, cell_at, Live, times}
 use Rattle.queue_law.specs.Views.{Taken, View, Eyes, Flight, no_load, view_at}

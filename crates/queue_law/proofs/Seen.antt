@@ -1,7 +1,7 @@
 -- Steps that change no list, and what a seat that holds a node knows of it.
 use Rattle.std.proofs.Common.{◌≡◌, ◌≢◌, ◌⊎◌, inr, ℕ, ◌+◌, ◌<◌, ◌≤◌, true, List, length, set, refl, ap, sym, ◌∙◌, subst, arith}
-use Rattle.plain_state.specs.State.{Plain, seat_at}
-use Rattle.plain_state.specs.Lawful.{Lawful}
+use Rattle.plain_protocol.specs.plain_state.State.{Plain, seat_at}
+use Rattle.plain_protocol.specs.plain_state.Lawful.{Lawful}
 use Rattle.plain_protocol.specs.Owns.{own_part}
 use Rattle.queue_law.specs.Words.{slot_at, cell_at, Live, held_times, life_in}
 use Rattle.queue_law.specs.Views.{Double, Taken, View, Eyes, view_at}

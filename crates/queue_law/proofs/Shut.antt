@@ -1,10 +1,10 @@
 -- The queue is shut: the head cell is cleared, and then the tail cell.
 use Rattle.std.proofs.Common.{◌≡◌, ◌≢◌, inl, inr, ℕ, ◌+◌, ◌-◌, ◌≤◌, true, List, ◌++◌, length, set, drop, refl, ap, sym, ◌∙◌, subst, arith, None}
 use Rattle.std.proofs.lemmas.Bool.{false≢true}
-use Rattle.plain_state.specs.State.{Plain}
-use Rattle.plain_state.specs.Steps.{Does}
-use Rattle.plain_state.specs.declared.act.EventPlace.TheVariants.{Cell}
-use Rattle.plain_state.specs.declared.act.PlainAct.TheVariants as act
+use Rattle.plain_protocol.specs.plain_state.State.{Plain}
+use Rattle.plain_protocol.specs.plain_state.Steps.{Does}
+use Rattle.plain_protocol.specs.plain_state.declared.act.EventPlace.TheVariants.{Cell}
+use Rattle.plain_protocol.specs.plain_state.declared.act.PlainAct.TheVariants as act
 use Rattle.plain_protocol.specs.Owns.{own_part}
 use Rattle.queue_law.specs.Words.{cell_at, whole_of}
 use Rattle.queue_law.specs.Views.{View, Load, first_view, view_at}

@@ -1,7 +1,7 @@
 -- The law holds at the start.
 use Rattle.std.proofs.Common.{◌≡◌, ◌⊎◌, inl, ⊎_elim, ℕ, suc, false, List, [], ◌∷◌, refl, ap, sym, ◌∙◌, subst, arith}
 use Rattle.std.proofs.lemmas.Bool.{false≢true}
-use Rattle.plain_state.specs.State.{Plain}
+use Rattle.plain_protocol.specs.plain_state.State.{Plain}
 use Rattle.queue_law.specs.Words.{cell_at, Live}
 use Rattle.queue_law.specs.Views.{View, no_load, first_view, view_of, view_at}
 use Rattle.queue_law.specs.Chain.{Ends}

@@ -1,13 +1,13 @@
 -- The law, with what it says of seats that have left, as a protocol owes it.
 use Rattle.std.proofs.Common.{◌≡◌, ◌≢◌, ◌⊎◌, inl, inr, ⊎_elim, ℕ, zero, suc, ◌+◌, ◌≤◌, true, List, length, get_or, set, map, replicate, refl, ap, sym, ◌∙◌, subst, arith, Option, None}
 use Rattle.std.proofs.lemmas.Bool.{cases_eq, cases_lt, false≢true}
-use Rattle.plain_state.specs.State.{Plain, PlainSeat, seat_at, new_seat, new_slot, no_payload}
-use Rattle.plain_state.specs.Lawful.{Lawful}
-use Rattle.plain_state.specs.Steps.{Does, word_of}
-use Rattle.plain_state.specs.declared.slot.SlotId.{SlotId}
-use Rattle.plain_state.specs.declared.slot.PlainSlot.{PlainSlot}
-use Rattle.plain_state.specs.declared.act.PlainAct.{PlainAct}
-use Rattle.plain_state.specs.declared.act.PlainAct.TheVariants as act
+use Rattle.plain_protocol.specs.plain_state.State.{Plain, PlainSeat, seat_at, new_seat, new_slot, no_payload}
+use Rattle.plain_protocol.specs.plain_state.Lawful.{Lawful}
+use Rattle.plain_protocol.specs.plain_state.Steps.{Does, word_of}
+use Rattle.plain_protocol.specs.plain_state.declared.slot.SlotId.{SlotId}
+use Rattle.plain_protocol.specs.plain_state.declared.slot.PlainSlot.{PlainSlot}
+use Rattle.plain_protocol.specs.plain_state.declared.act.PlainAct.{PlainAct}
+use Rattle.plain_protocol.specs.plain_state.declared.act.PlainAct.TheVariants as act
 use Rattle.plain_protocol.specs.Owns.{OwnPart, own_part}
 use Rattle.plain_protocol.specs.Acts.{IsCalm, IsForeign}
 use Rattle.queue_law.specs.Words.{cell_at, code, id}
@@ -19,8 +19,8 @@ use Rattle.queue_law.specs.Lessons.{TellsNothing}
 use Rattle.std.proofs.lemmas.List.{get_or-set_other, get_or_past, length-set, get_or-replicate, length-replicate}
 use Rattle.std.proofs.lemmas.List.FromFn.{get_or-map-range_with_len}
 use Rattle.std.specs.List.{range_with_len}
-use Rattle.plain_state.specs.State.{with_seat, with_slot, empty}
-use Rattle.plain_state.specs.State as state
+use Rattle.plain_protocol.specs.plain_state.State.{with_seat, with_slot, empty}
+use Rattle.plain_protocol.specs.plain_state.State as state
 use Rattle.plain_protocol.specs.Laws as laws
 use Rattle.queue_law.proofs.Notes.{view_here, view_else}
 use Rattle.queue_law.proofs.Foreign.{calm, foreign}

@@ -1,6 +1,6 @@
 -- The history of a queue's nodes, and the chain that it leaves in the plain state.
 use Rattle.std.specs.Prelude.{◌≡◌, ◌≢◌, ℕ, ◌+◌, ◌<◌, ◌≤◌, ◌⊎◌, List, slice_index_or, length}
-use Rattle.plain_state.specs.State.{Plain, no_payload}
+use Rattle.plain_protocol.specs.plain_state.State.{Plain, no_payload}
 use Rattle.queue_law.specs.Words.{slot_at, cell_at, Live, BLANK}
 use Rattle.queue_law.specs.Views.{Form, Linked, Double, Item, no_item}
 

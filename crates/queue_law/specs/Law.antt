@@ -1,6 +1,6 @@
 -- The law of a queue.
 use Rattle.std.specs.Prelude.{◌≡◌, ◌≢◌, ℕ, ◌+◌, ◌<◌, ◌≤◌, true, ◌⊎◌, List, drop, length}
-use Rattle.plain_state.specs.State.{Plain, seat_at}
+use Rattle.plain_protocol.specs.plain_state.State.{Plain, seat_at}
 use Rattle.queue_law.specs.Words.{cell_at}
 use Rattle.queue_law.specs.Views.{Taken, View, first_view, view_at}
 use Rattle.queue_law.specs.Chain.{Ends, Sent, Chain}

@@ -1,10 +1,10 @@
 -- The deeds by which a seat learns: each is a step that changes nothing that a queue reads.
 use Rattle.std.specs.Prelude.{◌≡◌, ◌≢◌, ℕ, zero, suc, ◌+◌, ◌-◌, ◌<◌, Bool, true, cond, ◌==◌, ◌⊎◌, nat_lt, not}
-use Rattle.plain_state.specs.declared.act.EventPlace.{EventPlace}
-use Rattle.plain_state.specs.declared.act.EventPlace.TheVariants.{Cell}
-use Rattle.plain_state.specs.declared.act.PlainAct.{PlainAct}
-use Rattle.plain_state.specs.declared.act.PlainAct.TheVariants as act
-use Rattle.plain_state.specs.State.{Plain, no_payload}
+use Rattle.plain_protocol.specs.plain_state.declared.act.EventPlace.{EventPlace}
+use Rattle.plain_protocol.specs.plain_state.declared.act.EventPlace.TheVariants.{Cell}
+use Rattle.plain_protocol.specs.plain_state.declared.act.PlainAct.{PlainAct}
+use Rattle.plain_protocol.specs.plain_state.declared.act.PlainAct.TheVariants as act
+use Rattle.plain_protocol.specs.plain_state.State.{Plain, no_payload}
 use Rattle.plain_protocol.specs.Owns.{OwnPart}
 use Rattle.queue_law.specs.Words.{id, slot_at, cell_at, Live, first_of, second_of, back_of, held_times, life_in}
 use Rattle.queue_law.specs.Views.{Linked, Double, View, Eyes, sees_node}

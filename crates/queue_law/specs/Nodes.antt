@@ -1,9 +1,9 @@
 -- The deeds on a node of the seat's own: it is made, and gets its item and its way back.
 use Rattle.std.specs.Prelude.{◌≡◌, ℕ, ◌+◌, ◌-◌, ◌<◌, Some}
-use Rattle.plain_state.specs.declared.act.PlainAct.{PlainAct}
-use Rattle.plain_state.specs.declared.act.PlainAct.TheVariants as act
-use Rattle.plain_state.specs.State.{no_payload}
-use Rattle.plain_state.specs.Steps.{word_of}
+use Rattle.plain_protocol.specs.plain_state.declared.act.PlainAct.{PlainAct}
+use Rattle.plain_protocol.specs.plain_state.declared.act.PlainAct.TheVariants as act
+use Rattle.plain_protocol.specs.plain_state.State.{no_payload}
+use Rattle.plain_protocol.specs.plain_state.Steps.{word_of}
 use Rattle.plain_protocol.specs.Owns.{OwnPart}
 use Rattle.queue_law.specs.Words.{id, second_of, back_of, times, life_in, payload_in}
 use Rattle.queue_law.specs.Views.{View, no_load}

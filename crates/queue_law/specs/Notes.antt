@@ -1,6 +1,6 @@
 -- What seats know of the history. All of it stays true, whatever others do.
 use Rattle.std.specs.Prelude.{◌≡◌, ◌≢◌, ℕ, ◌+◌, ◌<◌, ◌≤◌, true, ◌⊎◌, List, slice_index_or, length}
-use Rattle.plain_state.specs.State.{Plain, no_payload}
+use Rattle.plain_protocol.specs.plain_state.State.{Plain, no_payload}
 use Rattle.queue_law.specs.Words.{slot_at, cell_at, Live}
 use Rattle.queue_law.specs.Views.{Double, Eyes, Load, Flight, View, no_flight, view_at}
 use Rattle.queue_law.specs.Chain.{Ends, Sent, sent, Present, Leads, WasLinked}

@@ -1,9 +1,9 @@
 -- What a queue owns, and what its lemmas say of a deed.
 use Rattle.std.specs.Prelude.{◌≡◌, ◌⊎◌, ℕ, ◌<◌, false, List, length, slice_set}
-use Rattle.plain_state.specs.declared.act.PlainAct.{PlainAct}
-use Rattle.plain_state.specs.State.{Plain, seat_at, no_payload}
-use Rattle.plain_state.specs.Lawful.{Lawful}
-use Rattle.plain_state.specs.Steps.{Does}
+use Rattle.plain_protocol.specs.plain_state.declared.act.PlainAct.{PlainAct}
+use Rattle.plain_protocol.specs.plain_state.State.{Plain, seat_at, no_payload}
+use Rattle.plain_protocol.specs.plain_state.Lawful.{Lawful}
+use Rattle.plain_protocol.specs.plain_state.Steps.{Does}
 use Rattle.plain_protocol.specs.Owns.{OwnPart, own_part}
 use Rattle.plain_protocol.specs.Acts.{Owned}
 use Rattle.queue_law.specs.Views.{View, view_at}

@@ -1,8 +1,8 @@
 -- The deeds of a pop.
 use Rattle.std.specs.Prelude.{◌≡◌, ℕ, ◌+◌, ◌-◌, ◌<◌, true, cond, ◌==◌, [], ◌∷◌, ◌++◌, Some, None}
-use Rattle.plain_state.specs.declared.act.EventPlace.TheVariants.{Cell}
-use Rattle.plain_state.specs.declared.act.PlainAct.{PlainAct}
-use Rattle.plain_state.specs.declared.act.PlainAct.TheVariants as act
+use Rattle.plain_protocol.specs.plain_state.declared.act.EventPlace.TheVariants.{Cell}
+use Rattle.plain_protocol.specs.plain_state.declared.act.PlainAct.{PlainAct}
+use Rattle.plain_protocol.specs.plain_state.declared.act.PlainAct.TheVariants as act
 use Rattle.plain_protocol.specs.Owns.{OwnPart}
 use Rattle.queue_law.specs.Words.{id, second_of, times, held_times, life_in, payload_in}
 use Rattle.queue_law.specs.Views.{View, Item}

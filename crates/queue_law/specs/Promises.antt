@@ -1,6 +1,6 @@
 -- What a queue promises, read off the plain state and the views.
 use Rattle.std.specs.Prelude.{◌≡◌, ℕ, zero, suc, ◌+◌, ◌⊎◌, List, [], ◌∷◌, ◌++◌}
-use Rattle.plain_state.specs.State.{Plain}
+use Rattle.plain_protocol.specs.plain_state.State.{Plain}
 use Rattle.queue_law.specs.Words.{slot_at, cell_at}
 use Rattle.queue_law.specs.Views.{Double, Item, View, Taken, no_item, view_at}
 use Rattle.queue_law.specs.Chain.{Ends, Sent, HoldsItem}

@@ -1,9 +1,9 @@
 -- The deeds that link nodes: the deciding exchange of a push, and what follows it.
 use Rattle.std.specs.Prelude.{◌≡◌, ℕ, ◌+◌, ◌-◌, ◌<◌, true, cond, ◌==◌, [], ◌∷◌, ◌++◌, Some, None}
-use Rattle.plain_state.specs.declared.act.EventPlace.TheVariants.{Cell}
-use Rattle.plain_state.specs.declared.act.PlainAct.{PlainAct}
-use Rattle.plain_state.specs.declared.act.PlainAct.TheVariants as act
-use Rattle.plain_state.specs.State.{no_payload}
+use Rattle.plain_protocol.specs.plain_state.declared.act.EventPlace.TheVariants.{Cell}
+use Rattle.plain_protocol.specs.plain_state.declared.act.PlainAct.{PlainAct}
+use Rattle.plain_protocol.specs.plain_state.declared.act.PlainAct.TheVariants as act
+use Rattle.plain_protocol.specs.plain_state.State.{no_payload}
 use Rattle.plain_protocol.specs.Owns.{OwnPart}
 use Rattle.queue_law.specs.Words.{id, first_of, held_times, life_in, payload_in}
 use Rattle.queue_law.specs.Views.{Linked, Double, View, Item, Flight, no_load, no_flight, sees_node}

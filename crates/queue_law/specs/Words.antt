@@ -1,18 +1,18 @@
 -- The plain state as a queue reads it: a slot is a number, and a place holds a word, 0 for null, else the number of the
 -- slot and one.
 use Rattle.std.specs.Prelude.{◌≡◌, ℕ, ◌+◌, Bool, List, [], slice_index_or, Option, Some, None}
-use Rattle.plain_state.specs.declared.act.EventPlace.{EventPlace}
-use Rattle.plain_state.specs.declared.act.EventPlace.TheVariants.{Field, WeakField}
-use Rattle.plain_state.specs.declared.slot.SlotId.{SlotId}
-use Rattle.plain_state.specs.declared.slot.PlainSlot.{PlainSlot}
-use Rattle.plain_state.specs.declared.slot.Kind.TheVariants.{Strong}
-use Rattle.plain_state.specs.declared.slot.Stage.{Stage}
-use Rattle.plain_state.specs.declared.slot.Stage.TheVariants as stage
-use Rattle.plain_state.specs.Lists.{entry_times}
-use Rattle.plain_state.specs.Lists as lists
-use Rattle.plain_state.specs.References as references
-use Rattle.plain_state.specs.State as state
-use Rattle.plain_state.specs.Steps.{word_of}
+use Rattle.plain_protocol.specs.plain_state.declared.act.EventPlace.{EventPlace}
+use Rattle.plain_protocol.specs.plain_state.declared.act.EventPlace.TheVariants.{Field, WeakField}
+use Rattle.plain_protocol.specs.plain_state.declared.slot.SlotId.{SlotId}
+use Rattle.plain_protocol.specs.plain_state.declared.slot.PlainSlot.{PlainSlot}
+use Rattle.plain_protocol.specs.plain_state.declared.slot.Kind.TheVariants.{Strong}
+use Rattle.plain_protocol.specs.plain_state.declared.slot.Stage.{Stage}
+use Rattle.plain_protocol.specs.plain_state.declared.slot.Stage.TheVariants as stage
+use Rattle.plain_protocol.specs.plain_state.Lists.{entry_times}
+use Rattle.plain_protocol.specs.plain_state.Lists as lists
+use Rattle.plain_protocol.specs.plain_state.References as references
+use Rattle.plain_protocol.specs.plain_state.State as state
+use Rattle.plain_protocol.specs.plain_state.Steps.{word_of}
 use Rattle.plain_protocol.specs.Owns.{OwnPart, Object}
 
 pub record SlotPart : Type 0 where

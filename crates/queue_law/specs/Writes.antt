@@ -1,6 +1,6 @@
 -- What one step does to the places that a queue reads.
 use Rattle.std.specs.Prelude.{◌≡◌, ◌≢◌, ℕ, ◌+◌, ◌<◌}
-use Rattle.plain_state.specs.State.{Plain, no_payload}
+use Rattle.plain_protocol.specs.plain_state.State.{Plain, no_payload}
 use Rattle.queue_law.specs.Chain.{Ends}
 use Rattle.queue_law.specs.Words.{slot_at, cell_at, Live, strong_refs, weak_refs, BLANK}
 

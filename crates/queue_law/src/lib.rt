@@ -19,5 +19,6 @@ mod promises;
 mod view;
 
 pub use laws::others_keep_the_law;
+pub use plain_protocol::{Deed, MOST_SLOTS, Protocol};
 pub use promises::{all_in_order, all_is_popped, no_cycles, nothing_is_lost, what_was_left};
 pub use view::{Eyes, Flight, Form, Item, Load, Stand, Taken, View};

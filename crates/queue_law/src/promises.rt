@@ -1,6 +1,6 @@
 //! What the law gives a caller.
 ghost use Rattle.std.specs.Prelude.{◌≡◌, ◌≢◌, ◌≤◌, ℕ, suc, List};
-ghost use Rattle.plain_state.specs.State.{Plain, no_payload};
+ghost use Rattle.plain_protocol.specs.plain_state.State.{Plain, no_payload};
 ghost use Rattle.queue_law.specs.Words.{cell_at, slot_at, Live};
 ghost use Rattle.queue_law.specs.Views.{Item, view_at};
 ghost use Rattle.queue_law.specs.Chain.{Ends};

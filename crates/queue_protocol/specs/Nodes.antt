@@ -1,7 +1,7 @@
 -- The payloads of nodes.
 use Rattle.std.proofs.Common.{arith}
 use Rattle.std.specs.Prelude.{ℕ, ◌≡◌, ◌≤◌, ◌^◌, List}
-use Rattle.plain_state.specs.State.{no_payload}
+use Rattle.protocol_pairs.specs.plain_state.State.{no_payload}
 
 -- all words are 0
 abbrev pub IsNodePayload : List ℕ → Type 0

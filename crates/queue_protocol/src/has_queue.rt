@@ -3,8 +3,7 @@ ghost use Rattle.queue_law.specs.declared.view.Item.{Item};
 ghost use Rattle.queue_protocol.specs.Pushable.{AcceptsKept, AcceptsPush, StaysPushable};
 
 use crate::law::QueueLaw;
-use plain_protocol::Protocol;
-use protocol_pairs::{Left, Pair, Part, Whole};
+use protocol_pairs::{Left, Pair, Part, Protocol, Whole};
 
 /// A protocol that has a queue as a part of it, or is one, and which items may be pushed. `S` says which part of it the
 /// queue is, and is inferred at a call.

@@ -5,7 +5,7 @@ ghost use Rattle.queue_law.specs.Lessons.{EndedTells, TellsNothing};
 ghost use Rattle.queue_law.proofs.Deeds as deeds;
 
 use crate::law::QueueLaw;
-use plain_protocol::Deed;
+use protocol_pairs::Deed;
 
 /// The node before one that was seen, by its weak field. Where that is null, there is none.
 #[derive(Clone, Copy, Drop)]

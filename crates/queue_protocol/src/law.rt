@@ -1,6 +1,6 @@
 //! A queue as a protocol.
 ghost use Rattle.std.specs.Prelude.{◌≡◌, ◌≢◌, ◌⊎◌};
-ghost use Rattle.plain_state.specs.State.{no_payload};
+ghost use Rattle.protocol_pairs.specs.plain_state.State.{no_payload};
 ghost use Rattle.queue_law.specs.declared.view.Form.TheVariants.{Linked, Double};
 ghost use Rattle.queue_law.specs.Chain.{ends};
 ghost use Rattle.queue_law.specs.Views.{first_view, joined, view_of};
@@ -8,7 +8,7 @@ ghost use Rattle.queue_law.specs.Law.{WholeLaw};
 ghost use Rattle.queue_law.proofs.Whole.{whole_calm, whole_foreign, whole_leave, whole_start};
 
 use crate::node_kind::NodeKind;
-use plain_protocol::Protocol;
+use protocol_pairs::Protocol;
 use queue_law::{Form, View};
 
 /// The law of one queue over two strong cells, in one of the two forms.

@@ -6,7 +6,7 @@ ghost use Rattle.queue_law.specs.Lessons.{AttachTells, CellTells, ItemTells, Nex
 ghost use Rattle.queue_law.proofs.Deeds as deeds;
 
 use crate::law::QueueLaw;
-use plain_protocol::Deed;
+use protocol_pairs::Deed;
 
 /// What the head cell held, if the seat then holds it. It is a node.
 #[derive(Clone, Copy, Drop)]

@@ -25,8 +25,6 @@ mod nodes;
 mod opening;
 mod pops;
 mod pushes;
-#[cfg(test)]
-mod tests;
 
 pub use has_queue::HasQueue;
 pub use helps::{FindEnded, FindSet, LearnBefore};
@@ -36,4 +34,6 @@ pub use node_kind::NodeKind;
 pub use nodes::{CarryItem, LinkBack, MakeNode};
 pub use opening::{LayHead, LayTail, ShutHead, ShutTail};
 pub use pops::{EmptyDummy, TakeItem};
+pub use protocol_pairs::{Deed, Left, Pair, PairKind, Part, Protocol, Right, Still};
 pub use pushes::{AdvanceTail, ExchangeTail, HelpLink, LandPush, LinkNode};
+pub use queue_law::Form;

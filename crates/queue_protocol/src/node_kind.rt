@@ -1,7 +1,7 @@
 //! What a queue puts into its slots.
 ghost use Rattle.queue_protocol.specs.Nodes.{IsNodePayload, node_bounded, node_weight};
 
-use plain_state::PayloadKind;
+use protocol_pairs::PayloadKind;
 
 /// Nodes: all words are 0, and they weigh nothing.
 #[derive(Clone, Copy, Debug, Drop)]

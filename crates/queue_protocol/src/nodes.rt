@@ -5,7 +5,7 @@ ghost use Rattle.queue_law.specs.Lessons.{TellsNothing};
 ghost use Rattle.queue_law.proofs.Deeds as deeds;
 
 use crate::law::QueueLaw;
-use plain_protocol::Deed;
+use protocol_pairs::Deed;
 
 /// The slot that the seat is filling becomes a node, and the seat's own.
 #[derive(Clone, Copy, Drop)]

@@ -5,7 +5,7 @@ ghost use Rattle.queue_law.specs.Lessons.{TellsNothing};
 ghost use Rattle.queue_law.proofs.Deeds as deeds;
 
 use crate::law::QueueLaw;
-use plain_protocol::Deed;
+use protocol_pairs::Deed;
 
 /// The dummy goes into the tail cell.
 #[derive(Clone, Copy, Drop)]

@@ -5,7 +5,7 @@ ghost use Rattle.queue_law.specs.Lessons.{TellsNothing};
 ghost use Rattle.queue_law.proofs.Deeds as deeds;
 
 use crate::law::QueueLaw;
-use plain_protocol::Deed;
+use protocol_pairs::Deed;
 
 /// In a linked queue: field 0 of the last node, which the tail cell held, gets the seat's own node, where it is still
 /// null. This is the deciding step of a push.

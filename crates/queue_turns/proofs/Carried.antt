@@ -1,18 +1,18 @@
 -- A seat that pushes copies of a reference of its own, and drops what it pops, owns that reference still.
 use Rattle.std.proofs.Common.{◌≡◌, ◌∙◌, inl, inr, ℕ, ◌<◌, Bool, true, false, List, [], ◌∷◌, ◌++◌, refl, ap, subst, arith}
 use Rattle.std.specs.Prelude.{Option, Some, None}
-use Rattle.retiring_stores.specs.Scanning.{Collected}
-use Rattle.slot_store.specs.Reaping.{Answers}
-use Rattle.plain_state.specs.declared.slot.SlotId.{SlotId}
-use Rattle.plain_state.specs.Lists.{times}
-use Rattle.core_events.specs.declared.view.CoreView.{CoreView}
-use Rattle.core_events.specs.Views.{without}
-use Rattle.core_law.proofs.Kit.{one_same, times_push, times_without}
-use Rattle.acquire_retire.specs.Calls.{IsSameView, same_view}
-use Rattle.acquire_retire.specs.Collecting.{ends}
-use Rattle.acquire_retire.specs.Domains.{DomainState}
-use Rattle.acquire_retire.specs.Seats.{SeatState}
-use Rattle.control_word.specs.Calls.{DropsStrong, GainsStrong, with_ended, without_strong}
+use Rattle.turn_loops.specs.retiring_stores.Scanning.{Collected}
+use Rattle.turn_loops.specs.slot_store.Reaping.{Answers}
+use Rattle.turn_loops.specs.plain_state.declared.slot.SlotId.{SlotId}
+use Rattle.turn_loops.specs.plain_state.Lists.{times}
+use Rattle.turn_loops.specs.core_events.declared.view.CoreView.{CoreView}
+use Rattle.turn_loops.specs.core_events.Views.{without}
+use Rattle.turn_loops.proofs.Below.core_law.Kit.{one_same, times_push, times_without}
+use Rattle.turn_loops.specs.acquire_retire.Calls.{IsSameView, same_view}
+use Rattle.turn_loops.specs.acquire_retire.Collecting.{ends}
+use Rattle.turn_loops.specs.acquire_retire.Domains.{DomainState}
+use Rattle.turn_loops.specs.acquire_retire.Seats.{SeatState}
+use Rattle.turn_loops.specs.control_word.Calls.{DropsStrong, GainsStrong, with_ended, without_strong}
 
 owned_ended : (b : Bool) (s : SlotId) (v : CoreView) → (with_ended b s v).owned ≡ v.owned
 owned_ended true s v = refl

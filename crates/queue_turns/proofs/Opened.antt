@@ -1,17 +1,17 @@
 -- The seats of a queue's domain that was just opened are free to push and pop.
 use Rattle.std.proofs.Common.{◌≡◌, ◌∙◌, ◌<◌, sym, arith, ap}
 use Rattle.std.specs.Prelude.{All}
-use Rattle.core_events.specs.Runs.{IsShape}
-use Rattle.core_law.proofs.Each.{get_each, length_each}
-use Rattle.acquire_retire.specs.Domains.{DomainState}
-use Rattle.acquire_retire.specs.Openings.{begun_seat, opened_seats}
-use Rattle.acquire_retire.specs.Seats.{SeatState}
-use Rattle.control_word.proofs.Beginning.{all_at_rest}
+use Rattle.turn_loops.specs.core_events.Runs.{IsShape}
+use Rattle.turn_loops.proofs.Below.core_law.Each.{get_each, length_each}
+use Rattle.turn_loops.specs.acquire_retire.Domains.{DomainState}
+use Rattle.turn_loops.specs.acquire_retire.Openings.{begun_seat, opened_seats}
+use Rattle.turn_loops.specs.acquire_retire.Seats.{SeatState}
+use Rattle.turn_loops.proofs.Below.control_word.Beginning.{all_at_rest}
 use Rattle.linked_queue.specs.Queues.{CanLay}
-use Rattle.queue_law.specs.declared.view.Form.{Form}
-use Rattle.queue_law.specs.declared.view.View.{View}
-use Rattle.queue_law.specs.Views.{view_of}
-use Rattle.queue_protocol.specs.declared.law.QueueLaw.{QueueLaw}
+use Rattle.linked_queue.specs.queue_law.declared.view.Form.{Form}
+use Rattle.linked_queue.specs.queue_law.declared.view.View.{View}
+use Rattle.linked_queue.specs.queue_law.Views.{view_of}
+use Rattle.linked_queue.specs.queue_protocol.declared.law.QueueLaw.{QueueLaw}
 use Rattle.queue_turns.specs.Queueing.{IsFreeToQueue}
 
 module _ (form : Form) (d : DomainState QueueLaw) (shape : IsShape d.shape) where

@@ -1,14 +1,14 @@
 -- A seat that pushes and pops, before it takes part in the queue and then.
 use Rattle.std.specs.Prelude.{◌≡◌, true}
-use Rattle.plain_state.specs.declared.slot.SlotId.{SlotId}
-use Rattle.plain_state.specs.Lists.{times}
-use Rattle.core_events.specs.Steps.{HasRoom}
-use Rattle.acquire_retire.specs.Domains.{DomainState}
-use Rattle.acquire_retire.specs.Seats.{SeatState}
-use Rattle.control_word.specs.Resting.{IsAtRest}
+use Rattle.turn_loops.specs.plain_state.declared.slot.SlotId.{SlotId}
+use Rattle.turn_loops.specs.plain_state.Lists.{times}
+use Rattle.turn_loops.specs.core_events.Steps.{HasRoom}
+use Rattle.turn_loops.specs.acquire_retire.Domains.{DomainState}
+use Rattle.turn_loops.specs.acquire_retire.Seats.{SeatState}
+use Rattle.turn_loops.specs.control_word.Resting.{IsAtRest}
 use Rattle.linked_queue.specs.Queues.{IsAttached}
-use Rattle.queue_law.specs.declared.view.View.{View}
-use Rattle.queue_protocol.specs.declared.law.QueueLaw.{QueueLaw}
+use Rattle.linked_queue.specs.queue_law.declared.view.View.{View}
+use Rattle.linked_queue.specs.queue_protocol.declared.law.QueueLaw.{QueueLaw}
 
 -- it is in no call, has room, hasn't left, and has laid nothing
 pub record IsFreeToQueue (d : DomainState QueueLaw) (s : SeatState View) : Type 0 where

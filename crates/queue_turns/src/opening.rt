@@ -4,11 +4,11 @@ ghost use Rattle.linked_queue.specs.Queues.{CanLay, IsQueueOf};
 ghost use Rattle.turn_loops.specs.Placings.{AreOfThreads};
 ghost use Rattle.queue_turns.specs.Queueing.{IsFreeToQueue};
 
-use acquire_retire::{Domain, OpenError, Quota, Seat, Shape, open_domain};
-use out_of_memory::OutOfMemory;
-use queue_protocol::QueueLaw;
+use linked_queue::QueueLaw;
 use std::alloc::Global;
-use turn_loops::{Placing, take_placed};
+use turn_loops::{
+    Domain, OpenError, OutOfMemory, Placing, Quota, Seat, Shape, open_domain, take_placed,
+};
 
 /// The cell of the queue's first node.
 pub(crate) const HEAD: u32 = 0;

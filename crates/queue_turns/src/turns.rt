@@ -1,19 +1,13 @@
 //! Turns that push and pop.
 ghost use Rattle.std.specs.Prelude.{◌≡◌, ◌<◌, IfOk};
-ghost use Rattle.plain_state.specs.Lists.{times};
+ghost use Rattle.turn_loops.specs.plain_state.Lists.{times};
 ghost use Rattle.linked_queue.specs.Queues.{CanLay, IsQueueOf};
 ghost use Rattle.queue_turns.specs.Queueing.{IsFreeToQueue, IsReadyToQueue, OwnsAsMuch};
 
 use crate::opening::{HEAD, TAIL};
-use acquire_retire::{Domain, Seat};
-use control_word::{copy_strong, drop_strong};
-use counted_handles::Strong;
-use deleter::Deleter;
-use linked_queue::{LinkedQueue, MakeError};
-use queue_protocol::{MakeNode, NodeKind, QueueLaw};
-use retiring_stores::collect;
-use slot_store::{make, reap};
+use linked_queue::{LinkedQueue, MakeError, MakeNode, NodeKind, QueueLaw, Strong};
 use std::sync::Wait;
+use turn_loops::{Deleter, Domain, Seat, collect, copy_strong, drop_strong, make, reap};
 
 /// How many turns a thread makes.
 pub const TURNS: u64 = 250_000;

@@ -1,16 +1,16 @@
 -- A slot that is made before another one.
 use Rattle.std.proofs.Common.{◌≡◌, ℕ, ◌<◌, List, [], ◌∷◌, ◌++◌, refl, ap, sym, ◌∙◌, subst, arith}
 use Rattle.std.specs.Prelude.{None, Option, Some}
-use Rattle.plain_state.specs.declared.slot.SlotId.{SlotId}
-use Rattle.plain_state.specs.Lists.{times}
-use Rattle.plain_protocol.specs.Owns.{Object}
-use Rattle.core_events.specs.Views.{without}
-use Rattle.core_law.proofs.Kit.{one_same, times_push, times_without}
-use Rattle.domain_rule.specs.Views.{object_in}
-use Rattle.acquire_retire.specs.Seats.{SeatState}
-use Rattle.directory_law.specs.declared.view.Rope.{Rope}
-use Rattle.directory_law.specs.declared.view.View.{View}
-use Rattle.directory_law.specs.Payloads.{IsPart, Text}
+use Rattle.atomic_shared.specs.plain_state.declared.slot.SlotId.{SlotId}
+use Rattle.atomic_shared.specs.plain_state.Lists.{times}
+use Rattle.atomic_shared.specs.plain_protocol.Owns.{Object}
+use Rattle.slot_store.specs.core_events.Views.{without}
+use Rattle.slot_store.proofs.Below.core_law.Kit.{one_same, times_push, times_without}
+use Rattle.slot_store.specs.domain_rule.Views.{object_in}
+use Rattle.slot_store.specs.acquire_retire.Seats.{SeatState}
+use Rattle.directory_calls.specs.directory_law.declared.view.Rope.{Rope}
+use Rattle.directory_calls.specs.directory_law.declared.view.View.{View}
+use Rattle.directory_calls.specs.directory_law.Payloads.{IsPart, Text}
 use Rattle.directory_calls.specs.Steps.{Leaves, with_found}
 use Rattle.directory_calls.proofs.Going.{holds_by, leaves_as, leaves_then}
 use Rattle.directory_calls.proofs.Parts.{Place}

@@ -2,17 +2,17 @@
 use Rattle.std.proofs.Common.{◌≡◌, ℕ, suc, ◌+◌, ◌-◌, ◌*◌, ◌<◌, ◌≤◌, List, [], ◌∷◌, ◌++◌, drop, length, refl, ap, sym, ◌∙◌, subst, arith}
 use Rattle.std.specs.Prelude.{Err, IfOk, None, Ok, Result, Some}
 use Rattle.std.proofs.lemmas.List.{drop-drop}
-use Rattle.plain_state.specs.declared.slot.SlotId.{SlotId}
-use Rattle.plain_state.specs.Lists.{times}
-use Rattle.core_events.specs.Steps.{HasRoom}
-use Rattle.core_events.specs.Views.{without}
-use Rattle.domain_rule.specs.Views.{object_in}
-use Rattle.acquire_retire.specs.Domains.{DomainState}
-use Rattle.acquire_retire.specs.Seats.{SeatState}
-use Rattle.control_word.specs.Resting.{IsAtRest}
-use Rattle.counted_handles.specs.Handles.{Handle}
-use Rattle.directory_law.specs.declared.view.View.{View}
-use Rattle.directory_law.specs.Payloads.{IsPart, Text}
+use Rattle.atomic_shared.specs.plain_state.declared.slot.SlotId.{SlotId}
+use Rattle.atomic_shared.specs.plain_state.Lists.{times}
+use Rattle.slot_store.specs.core_events.Steps.{HasRoom}
+use Rattle.slot_store.specs.core_events.Views.{without}
+use Rattle.slot_store.specs.domain_rule.Views.{object_in}
+use Rattle.slot_store.specs.acquire_retire.Domains.{DomainState}
+use Rattle.slot_store.specs.acquire_retire.Seats.{SeatState}
+use Rattle.slot_store.specs.control_word.Resting.{IsAtRest}
+use Rattle.slot_store.specs.counted_handles.Handles.{Handle}
+use Rattle.directory_calls.specs.directory_law.declared.view.View.{View}
+use Rattle.directory_calls.specs.directory_law.Payloads.{IsPart, Text}
 use Rattle.directory_calls.specs.Steps.{Leaves}
 use Rattle.directory_calls.proofs.Parts.{Place}
 use Rattle.record_making.specs.Making.{AddsAsMakes, HasText, Notes, NotesOnly, PutsBefore, candidate_in, made_by, with_notes}

@@ -1,17 +1,17 @@
 -- A strong reference that is given up.
 use Rattle.std.proofs.Common.{◌≡◌, ℕ, List, ◌++◌, refl, ap, sym, subst, arith}
 use Rattle.std.specs.Prelude.{Bool, true, false}
-use Rattle.plain_state.specs.declared.slot.SlotId.{SlotId}
-use Rattle.core_events.specs.declared.view.CoreView.{CoreView}
-use Rattle.core_events.specs.declared.view.Move.{Move}
-use Rattle.core_events.specs.Views.{without}
-use Rattle.acquire_retire.specs.Collecting.{ends}
-use Rattle.acquire_retire.specs.Domains.{DomainState}
-use Rattle.acquire_retire.specs.Seats.{SeatState}
-use Rattle.control_word.specs.Calls.{DropsStrong, with_ended, without_strong}
-use Rattle.control_word.specs.Moves.{KnowsStill}
-use Rattle.control_word.specs.Resting.{IsSpent}
-use Rattle.protected_loads.proofs.Telling.{holds_has}
+use Rattle.atomic_shared.specs.plain_state.declared.slot.SlotId.{SlotId}
+use Rattle.slot_store.specs.core_events.declared.view.CoreView.{CoreView}
+use Rattle.slot_store.specs.core_events.declared.view.Move.{Move}
+use Rattle.slot_store.specs.core_events.Views.{without}
+use Rattle.slot_store.specs.acquire_retire.Collecting.{ends}
+use Rattle.slot_store.specs.acquire_retire.Domains.{DomainState}
+use Rattle.slot_store.specs.acquire_retire.Seats.{SeatState}
+use Rattle.slot_store.specs.control_word.Calls.{DropsStrong, with_ended, without_strong}
+use Rattle.slot_store.specs.control_word.Moves.{KnowsStill}
+use Rattle.slot_store.specs.control_word.Resting.{IsSpent}
+use Rattle.atomic_shared.proofs.Below.protected_loads.Telling.{holds_has}
 use Rattle.record_making.specs.Making.{AddsAsMakes}
 use Rattle.slot_store.specs.Calls.{HasNoMake}
 use Rattle.directory_calls.specs.Steps.{Leaves}

@@ -2,31 +2,31 @@
 use Rattle.std.proofs.Common.{◌≡◌, ⊎_elim, ℕ, ◌+◌, ◌<◌, List, ◌∷◌, ap, sym, ◌∙◌, arith}
 use Rattle.std.specs.Prelude.{Some}
 use Rattle.std.proofs.lemmas.Bool.{cases_lt}
-use Rattle.plain_state.specs.declared.act.EventPlace.TheVariants.{Field}
-use Rattle.plain_state.specs.declared.act.PlainAct.{PlainAct}
-use Rattle.plain_state.specs.declared.slot.Kind.TheVariants.{Strong}
-use Rattle.plain_state.specs.declared.slot.SlotId.{SlotId}
-use Rattle.plain_state.specs.Lists.{times}
-use Rattle.plain_protocol.specs.Owns.{Object}
-use Rattle.core_events.specs.declared.act.Act.TheVariants as act
-use Rattle.core_events.specs.declared.outcome.Outcome.TheVariants as outcome
-use Rattle.core_events.specs.declared.view.CoreView.{CoreView}
-use Rattle.core_events.specs.Steps.{without_given}
-use Rattle.core_events.specs.Views.{without}
-use Rattle.core_law.proofs.Kit.{one_other, one_same, times_without}
-use Rattle.domain_rule.specs.Views.{object_in, own_of}
-use Rattle.acquire_retire.specs.Calls.{IsSameView, same_view}
-use Rattle.acquire_retire.specs.Domains.{DomainState}
-use Rattle.acquire_retire.specs.Seats.{SeatState}
-use Rattle.control_word.specs.Calls.{without_strong}
-use Rattle.control_word.specs.Moves.{KnowsStill}
-use Rattle.protected_loads.proofs.Telling.{holds_has}
-use Rattle.retiring_stores.specs.Exchanging.{Stores}
-use Rattle.retiring_stores.specs.Scanning.{ScansWhereDue}
-use Rattle.directory_law.specs.declared.view.Rope.{Rope}
-use Rattle.directory_law.specs.Making.{link_next, linked}
-use Rattle.directory_law.specs.Views.{rope}
-use Rattle.directory_law.specs.Views.{without as without_note}
+use Rattle.atomic_shared.specs.plain_state.declared.act.EventPlace.TheVariants.{Field}
+use Rattle.atomic_shared.specs.plain_state.declared.act.PlainAct.{PlainAct}
+use Rattle.atomic_shared.specs.plain_state.declared.slot.Kind.TheVariants.{Strong}
+use Rattle.atomic_shared.specs.plain_state.declared.slot.SlotId.{SlotId}
+use Rattle.atomic_shared.specs.plain_state.Lists.{times}
+use Rattle.atomic_shared.specs.plain_protocol.Owns.{Object}
+use Rattle.slot_store.specs.core_events.declared.act.Act.TheVariants as act
+use Rattle.slot_store.specs.core_events.declared.outcome.Outcome.TheVariants as outcome
+use Rattle.slot_store.specs.core_events.declared.view.CoreView.{CoreView}
+use Rattle.slot_store.specs.core_events.Steps.{without_given}
+use Rattle.slot_store.specs.core_events.Views.{without}
+use Rattle.slot_store.proofs.Below.core_law.Kit.{one_other, one_same, times_without}
+use Rattle.slot_store.specs.domain_rule.Views.{object_in, own_of}
+use Rattle.slot_store.specs.acquire_retire.Calls.{IsSameView, same_view}
+use Rattle.slot_store.specs.acquire_retire.Domains.{DomainState}
+use Rattle.slot_store.specs.acquire_retire.Seats.{SeatState}
+use Rattle.slot_store.specs.control_word.Calls.{without_strong}
+use Rattle.slot_store.specs.control_word.Moves.{KnowsStill}
+use Rattle.atomic_shared.proofs.Below.protected_loads.Telling.{holds_has}
+use Rattle.atomic_shared.specs.retiring_stores.Exchanging.{Stores}
+use Rattle.atomic_shared.specs.retiring_stores.Scanning.{ScansWhereDue}
+use Rattle.directory_calls.specs.directory_law.declared.view.Rope.{Rope}
+use Rattle.directory_calls.specs.directory_law.Making.{link_next, linked}
+use Rattle.directory_calls.specs.directory_law.Views.{rope}
+use Rattle.directory_calls.specs.directory_law.Views.{without as without_note}
 use Rattle.directory_calls.specs.Steps.{GoesOn, Leaves, aside}
 use Rattle.directory_calls.proofs.Going.{goes_none, goes_then, holds_by, step_goes, walks_go}
 use Rattle.directory_calls.proofs.Parts.{Place, lifts, tells}

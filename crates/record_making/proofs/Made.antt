@@ -1,39 +1,39 @@
 -- What a make with the deed MakeSlot asks, and what it leaves.
 use Rattle.std.proofs.Common.{◌≡◌, ℕ, ◌+◌, ◌<◌, List, [], ◌∷◌, refl, ap, sym, ◌∙◌, subst, arith, Some, None}
 use Rattle.std.specs.Prelude.{Err, IfOk, Ok, Result, if◌then◌else◌}
-use Rattle.plain_state.specs.declared.act.PlainAct.{PlainAct}
-use Rattle.plain_state.specs.declared.act.PlainAct.TheVariants as plain
-use Rattle.plain_state.specs.declared.slot.SlotId.{SlotId}
-use Rattle.plain_state.specs.Lists.{times}
-use Rattle.plain_protocol.specs.Acts.{Owned}
-use Rattle.plain_protocol.specs.Owns.{HasSlot, Object, OwnPart}
-use Rattle.protocol_pairs.specs.Parts.{Accepts, Frees}
-use Rattle.protocol_pairs.specs.Spared.{HasOneOf, IsWithin}
-use Rattle.core_events.specs.declared.view.CoreView.{CoreView}
-use Rattle.core_events.specs.declared.view.Phase.{Phase}
-use Rattle.core_events.specs.declared.view.Phase.TheVariants as phase
-use Rattle.core_events.specs.Shows.{show_seat}
-use Rattle.core_events.specs.ShownSteps.{on_slot}
-use Rattle.core_events.specs.Views.{slot_of}
-use Rattle.domain_rule.specs.Views.{object_in, own_of}
-use Rattle.domain_rule.proofs.Others.{fills_has}
-use Rattle.acquire_retire.specs.Domains.{DomainState}
-use Rattle.acquire_retire.specs.Seats.{SeatState}
-use Rattle.control_word.specs.Moves.{KnowsStill}
-use Rattle.counted_handles.specs.Handles.{Handle}
-use Rattle.protected_loads.proofs.Telling.{holds_has}
+use Rattle.atomic_shared.specs.plain_state.declared.act.PlainAct.{PlainAct}
+use Rattle.atomic_shared.specs.plain_state.declared.act.PlainAct.TheVariants as plain
+use Rattle.atomic_shared.specs.plain_state.declared.slot.SlotId.{SlotId}
+use Rattle.atomic_shared.specs.plain_state.Lists.{times}
+use Rattle.atomic_shared.specs.plain_protocol.Acts.{Owned}
+use Rattle.atomic_shared.specs.plain_protocol.Owns.{HasSlot, Object, OwnPart}
+use Rattle.slot_store.specs.protocol_pairs.Parts.{Accepts, Frees}
+use Rattle.slot_store.specs.protocol_pairs.Spared.{HasOneOf, IsWithin}
+use Rattle.slot_store.specs.core_events.declared.view.CoreView.{CoreView}
+use Rattle.slot_store.specs.core_events.declared.view.Phase.{Phase}
+use Rattle.slot_store.specs.core_events.declared.view.Phase.TheVariants as phase
+use Rattle.slot_store.specs.core_events.Shows.{show_seat}
+use Rattle.slot_store.specs.core_events.ShownSteps.{on_slot}
+use Rattle.slot_store.specs.core_events.Views.{slot_of}
+use Rattle.slot_store.specs.domain_rule.Views.{object_in, own_of}
+use Rattle.slot_store.proofs.Below.domain_rule.Others.{fills_has}
+use Rattle.slot_store.specs.acquire_retire.Domains.{DomainState}
+use Rattle.slot_store.specs.acquire_retire.Seats.{SeatState}
+use Rattle.slot_store.specs.control_word.Moves.{KnowsStill}
+use Rattle.slot_store.specs.counted_handles.Handles.{Handle}
+use Rattle.atomic_shared.proofs.Below.protected_loads.Telling.{holds_has}
 use Rattle.slot_store.specs.declared.making.MakeError.{MakeError}
 use Rattle.slot_store.specs.declared.making.MakeError.TheVariants as refused
 use Rattle.slot_store.specs.Calls.{Begins, Makes, with_made}
 use Rattle.slot_store.specs.Searching.{Misses}
-use Rattle.directory_law.specs.declared.view.Rope.{Rope}
-use Rattle.directory_law.specs.declared.view.View.{View}
-use Rattle.directory_law.specs.Cells.{Area}
-use Rattle.directory_law.specs.Making.{MakeReady, MakeTells, alone, make_next}
-use Rattle.directory_law.specs.Payloads.{IsOwn}
-use Rattle.directory_law.specs.Steps.{life_in, life_of, payload_in, payload_of}
-use Rattle.directory_law.specs.Views.{rope}
-use Rattle.directory_protocol.specs.Keeping.{MindsNone}
+use Rattle.directory_calls.specs.directory_law.declared.view.Rope.{Rope}
+use Rattle.directory_calls.specs.directory_law.declared.view.View.{View}
+use Rattle.directory_calls.specs.directory_law.Cells.{Area}
+use Rattle.directory_calls.specs.directory_law.Making.{MakeReady, MakeTells, alone, make_next}
+use Rattle.directory_calls.specs.directory_law.Payloads.{IsOwn}
+use Rattle.directory_calls.specs.directory_law.Steps.{life_in, life_of, payload_in, payload_of}
+use Rattle.directory_calls.specs.directory_law.Views.{rope}
+use Rattle.directory_calls.specs.directory_protocol.Keeping.{MindsNone}
 use Rattle.record_making.specs.Making.{AddsAsMakes, candidate_in, made_by, with_notes}
 use Rattle.directory_calls.specs.Steps.{Leaves, handle_by, with_found}
 use Rattle.directory_calls.proofs.Going.{leaves_core, leaves_none}

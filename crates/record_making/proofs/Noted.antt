@@ -2,15 +2,15 @@
 use Rattle.std.proofs.Common.{◌≡◌, ℕ, List, [], ◌∷◌, refl, ap, sym, ◌∙◌, subst}
 use Rattle.std.specs.Prelude.{Err, IfOk, IsErrAnd, Ok, OnErr, Result}
 use Rattle.std.proofs.lemmas.Result.{err_from_is_err_and}
-use Rattle.plain_state.specs.declared.slot.SlotId.{SlotId}
-use Rattle.acquire_retire.specs.Domains.{DomainState}
-use Rattle.acquire_retire.specs.Seats.{SeatState}
-use Rattle.counted_handles.specs.Handles.{Handle}
+use Rattle.atomic_shared.specs.plain_state.declared.slot.SlotId.{SlotId}
+use Rattle.slot_store.specs.acquire_retire.Domains.{DomainState}
+use Rattle.slot_store.specs.acquire_retire.Seats.{SeatState}
+use Rattle.slot_store.specs.counted_handles.Handles.{Handle}
 use Rattle.slot_store.specs.declared.making.MakeError.{MakeError}
 use Rattle.slot_store.specs.Searching.{Misses}
-use Rattle.directory_law.specs.declared.view.Rope.{Rope}
-use Rattle.directory_law.specs.declared.view.View.{View}
-use Rattle.directory_law.specs.Payloads.{Text}
+use Rattle.directory_calls.specs.directory_law.declared.view.Rope.{Rope}
+use Rattle.directory_calls.specs.directory_law.declared.view.View.{View}
+use Rattle.directory_calls.specs.directory_law.Payloads.{Text}
 use Rattle.directory_calls.specs.Steps.{GoesOn}
 use Rattle.directory_calls.proofs.Going.{goes_none, goes_then}
 use Rattle.directory_calls.proofs.Parts.{Place}

@@ -1,3 +1,10 @@
+-- What callers cite of the crates below.
+pub use Rattle.directory_calls.specs as directory_calls
+pub use Rattle.directory_calls.specs.directory_law as directory_law
+pub use Rattle.directory_calls.specs.directory_protocol as directory_protocol
+pub use Rattle.slot_store.specs.protocol_pairs as protocol_pairs
+pub use Rattle.slot_store.specs as slot_store
+-- Its own.
 pub mod Texts
 pub mod Making
 pub mod UnlessRipe

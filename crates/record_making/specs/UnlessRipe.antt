@@ -2,13 +2,13 @@
 use Rattle.std.proofs.Common.{◌≡◌, ⊎_elim, ℕ, Bool, true, false, List, refl, sym, subst}
 use Rattle.std.specs.Prelude.{◌⊎◌, cond, slice_index_or, slice_set}
 use Rattle.std.proofs.lemmas.List.{set-get_or}
-use Rattle.plain_state.specs.declared.act.EventPlace.{EventPlace}
-use Rattle.plain_state.specs.declared.act.PlainAct.{PlainAct}
-use Rattle.plain_state.specs.declared.act.PlainAct.TheVariants as plain
-use Rattle.plain_state.specs.State.{Plain}
-use Rattle.plain_protocol.specs.Acts.{IsCalm}
-use Rattle.plain_protocol.specs.Laws.{KeptByCalm, Keeps}
-use Rattle.plain_protocol.specs.Owns.{OwnPart, own_part}
+use Rattle.atomic_shared.specs.plain_state.declared.act.EventPlace.{EventPlace}
+use Rattle.atomic_shared.specs.plain_state.declared.act.PlainAct.{PlainAct}
+use Rattle.atomic_shared.specs.plain_state.declared.act.PlainAct.TheVariants as plain
+use Rattle.atomic_shared.specs.plain_state.State.{Plain}
+use Rattle.atomic_shared.specs.plain_protocol.Acts.{IsCalm}
+use Rattle.atomic_shared.specs.plain_protocol.Laws.{KeptByCalm, Keeps}
+use Rattle.atomic_shared.specs.plain_protocol.Owns.{OwnPart, own_part}
 
 -- the step clears a field of a slot that is to be destroyed
 abbrev pub is_clear : PlainAct → Bool

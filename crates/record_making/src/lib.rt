@@ -16,12 +16,15 @@
 #![tactic(auto)]
 
 mod making;
-#[cfg(test)]
-mod tests;
 mod texts;
 mod unless_ripe;
 
+pub use atomic_shared::try_load;
+pub use directory_calls::{
+    AnswerHead, BindHead, Directory, DirectoryLaw, DrawTicket, ForgetEnded, HasDirectory,
+    LookAtCell, RecordKind, SeeHead, UpgradeHead,
+};
 pub use making::make_record;
-pub use slot_store::MakeError;
+pub use slot_store::{InPart, MakeError, read};
 pub use texts::{cell_on, hash_of, head_of, part_at};
 pub use unless_ripe::UnlessRipe;

@@ -1,28 +1,24 @@
 //! Slots with the text of a record that doesn't stand in a cell yet.
 ghost use Rattle.std.specs.Prelude.{◌≡◌, ◌+◌, ◌<◌, ◌≤◌, [], ◌∷◌, Err, IfOk, OnErr, drop, length};
 ghost use Rattle.std.specs.Int.{div_ceil};
-ghost use Rattle.plain_state.specs.Lists.{times};
-ghost use Rattle.core_events.specs.Steps.{HasRoom};
-ghost use Rattle.core_events.specs.Views.{without};
-ghost use Rattle.control_word.specs.Resting.{IsAtRest, IsSpent};
-ghost use Rattle.domain_rule.specs.Views.{object_in};
+ghost use Rattle.atomic_shared.specs.plain_state.Lists.{times};
+ghost use Rattle.slot_store.specs.core_events.Steps.{HasRoom};
+ghost use Rattle.slot_store.specs.core_events.Views.{without};
+ghost use Rattle.slot_store.specs.control_word.Resting.{IsAtRest, IsSpent};
+ghost use Rattle.slot_store.specs.domain_rule.Views.{object_in};
 ghost use Rattle.slot_store.specs.declared.making.MakeError.TheVariants as refused;
 ghost use Rattle.slot_store.specs.Calls.{HasNoMake};
-ghost use Rattle.directory_law.specs.Bytes.{IsPiece, IsTextOf};
-ghost use Rattle.directory_law.specs.Payloads.{IsOwn, IsPart};
+ghost use Rattle.directory_calls.specs.directory_law.Bytes.{IsPiece, IsTextOf};
+ghost use Rattle.directory_calls.specs.directory_law.Payloads.{IsOwn, IsPart};
 ghost use Rattle.directory_calls.specs.Steps.{Leaves, handle_by, with_found};
 ghost use Rattle.record_making.specs.Making.{AddsAsMakes, HasText, HasTwo, Links, MissesWithin, Notes, NotesOnly, PutsBefore, candidate_in, made_by, with_notes};
 ghost use Rattle.record_making.specs.Texts.{parts_after, parts_of, text_of};
 
 use crate::texts::{head_of, part_at};
 use crate::unless_ripe::UnlessRipe;
-use acquire_retire::{Domain, Seat, SlotId};
-use atomic_shared::{Place, store};
-use control_word::drop_strong;
-use counted_handles::Strong;
-use directory_protocol::{DirectoryLaw, HasDirectory, LinkPart, MakeSlot};
-use protocol_pairs::InPart;
-use slot_store::{MakeError, make};
+use atomic_shared::{Place, SlotId, Strong, drop_strong, store};
+use directory_calls::{DirectoryLaw, HasDirectory, LinkPart, MakeSlot};
+use slot_store::{Domain, InPart, MakeError, Seat, make};
 
 /// Makes the slots of a text of 1 to 4,096 bytes, the last part first, and links each to the one that was made before
 /// it. The head stands nowhere, and is noted last with the whole text. Where a make is refused, with its causes, what

@@ -20,8 +20,7 @@
 
 mod batch;
 mod split;
-#[cfg(test)]
-mod tests;
 
 pub use batch::Batch;
+pub use out_of_memory::OutOfMemory;
 pub use split::split_entries;

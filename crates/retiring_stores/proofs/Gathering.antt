@@ -2,41 +2,41 @@
 use Rattle.std.proofs.Common.{◌≡◌, ℕ, ◌+◌, ◌<◌, ◌≤◌, Bool, true, false, List, [], ◌∷◌, ◌++◌, refl, ap, sym, ◌∙◌, subst, arith}
 use Rattle.std.specs.Prelude.{Option, ◌==◌, filter, flat_map, slice_index_or}
 use Rattle.std.proofs.lemmas.Bool.Decides.{nat_tests}
-use Rattle.plain_state.specs.declared.act.EventPlace.{EventPlace}
-use Rattle.plain_state.specs.declared.slot.Kind.TheVariants.{Strong, Weak, Disposal}
-use Rattle.plain_state.specs.declared.slot.SlotId.{SlotId}
-use Rattle.plain_state.specs.Ejection.{ripens}
-use Rattle.plain_state.specs.Lists.{Entry, times}
-use Rattle.plain_state.specs.Places.{held_times}
-use Rattle.plain_state.specs.References.{held_in}
-use Rattle.plain_protocol.specs.Owns.{HasSlot, Object}
-use Rattle.core_events.specs.declared.act.Act.{Act}
-use Rattle.core_events.specs.declared.act.Act.TheVariants as act
-use Rattle.core_events.specs.declared.outcome.Outcome.{Outcome}
-use Rattle.core_events.specs.declared.shape.Shape.{Shape}
-use Rattle.core_events.specs.declared.view.CoreView.{CoreView}
-use Rattle.core_events.specs.declared.view.Move.{Move}
-use Rattle.core_events.specs.declared.view.Note.{Note}
-use Rattle.core_events.specs.declared.view.Note.TheVariants as note
-use Rattle.core_events.specs.declared.view.Phase.{Phase}
-use Rattle.core_events.specs.declared.view.Phase.TheVariants as phase
-use Rattle.core_events.specs.Runs.{IsShape}
-use Rattle.core_events.specs.Shows.{filled, show_seat}
-use Rattle.core_events.specs.ShownSteps.{ejects, shown_act}
-use Rattle.core_events.specs.Steps.{all_seen, changed, ended, is_last, paid, scanned}
-use Rattle.core_events.specs.Views.{alone, slot_of}
-use Rattle.core_law.proofs.Kit.{times_append}
-use Rattle.counter_word.specs.Words.{has_help}
-use Rattle.domain_rule.specs.Told.{changed_object, cleared_after}
-use Rattle.domain_rule.specs.Views.{object_in}
-use Rattle.acquire_retire.specs.declared.payment.Payment.{Payment}
-use Rattle.acquire_retire.specs.declared.payment.Payment.TheVariants as payment
-use Rattle.acquire_retire.specs.declared.payment.Work.{Work}
-use Rattle.acquire_retire.specs.Calls.{IsSameView, Steps, same_view}
-use Rattle.acquire_retire.specs.Collecting.{Collects, Walks, paid_by, read_by, scanned_by}
-use Rattle.acquire_retire.specs.Domains.{DomainState}
-use Rattle.acquire_retire.specs.Seats.{SeatState}
-use Rattle.acquire_retire.proofs.Collects.{IsGathering, goes_by, is_of_after}
+use Rattle.control_word.specs.plain_state.declared.act.EventPlace.{EventPlace}
+use Rattle.control_word.specs.plain_state.declared.slot.Kind.TheVariants.{Strong, Weak, Disposal}
+use Rattle.control_word.specs.plain_state.declared.slot.SlotId.{SlotId}
+use Rattle.control_word.specs.plain_state.Ejection.{ripens}
+use Rattle.control_word.specs.plain_state.Lists.{Entry, times}
+use Rattle.control_word.specs.plain_state.Places.{held_times}
+use Rattle.control_word.specs.plain_state.References.{held_in}
+use Rattle.control_word.specs.plain_protocol.Owns.{HasSlot, Object}
+use Rattle.control_word.specs.core_events.declared.act.Act.{Act}
+use Rattle.control_word.specs.core_events.declared.act.Act.TheVariants as act
+use Rattle.control_word.specs.core_events.declared.outcome.Outcome.{Outcome}
+use Rattle.control_word.specs.core_events.declared.shape.Shape.{Shape}
+use Rattle.control_word.specs.core_events.declared.view.CoreView.{CoreView}
+use Rattle.control_word.specs.core_events.declared.view.Move.{Move}
+use Rattle.control_word.specs.core_events.declared.view.Note.{Note}
+use Rattle.control_word.specs.core_events.declared.view.Note.TheVariants as note
+use Rattle.control_word.specs.core_events.declared.view.Phase.{Phase}
+use Rattle.control_word.specs.core_events.declared.view.Phase.TheVariants as phase
+use Rattle.control_word.specs.core_events.Runs.{IsShape}
+use Rattle.control_word.specs.core_events.Shows.{filled, show_seat}
+use Rattle.control_word.specs.core_events.ShownSteps.{ejects, shown_act}
+use Rattle.control_word.specs.core_events.Steps.{all_seen, changed, ended, is_last, paid, scanned}
+use Rattle.control_word.specs.core_events.Views.{alone, slot_of}
+use Rattle.control_word.proofs.Below.core_law.Kit.{times_append}
+use Rattle.control_word.specs.counter_word.Words.{has_help}
+use Rattle.control_word.specs.domain_rule.Told.{changed_object, cleared_after}
+use Rattle.control_word.specs.domain_rule.Views.{object_in}
+use Rattle.control_word.specs.acquire_retire.declared.payment.Payment.{Payment}
+use Rattle.control_word.specs.acquire_retire.declared.payment.Payment.TheVariants as payment
+use Rattle.control_word.specs.acquire_retire.declared.payment.Work.{Work}
+use Rattle.control_word.specs.acquire_retire.Calls.{IsSameView, Steps, same_view}
+use Rattle.control_word.specs.acquire_retire.Collecting.{Collects, Walks, paid_by, read_by, scanned_by}
+use Rattle.control_word.specs.acquire_retire.Domains.{DomainState}
+use Rattle.control_word.specs.acquire_retire.Seats.{SeatState}
+use Rattle.control_word.proofs.Below.acquire_retire.Collects.{IsGathering, goes_by, is_of_after}
 use Rattle.control_word.specs.Resting.{IsAtRest, IsSettled}
 use Rattle.control_word.proofs.Following.{end_keeps, give_keeps}
 use Rattle.retiring_stores.specs.Scanning.{Collected, IsBelow}

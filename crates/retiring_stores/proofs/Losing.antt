@@ -2,24 +2,24 @@
 use Rattle.std.proofs.Common.{◌≡◌, ◌≢◌, ℕ, Bool, true, false, List, [], ◌∷◌, length, refl, ap, sym, ◌∙◌, subst, arith}
 use Rattle.std.specs.Prelude.{Option, ◌==◌, if◌then◌else◌}
 use Rattle.std.proofs.lemmas.Bool.Decides.{nat_tests}
-use Rattle.plain_state.specs.declared.act.EventPlace.{EventPlace}
-use Rattle.plain_state.specs.declared.act.PlainAct.{PlainAct}
-use Rattle.plain_state.specs.declared.slot.SlotId.{SlotId}
-use Rattle.plain_state.specs.Places.{place_kind}
-use Rattle.plain_state.specs.State.{Plain}
-use Rattle.plain_state.specs.Steps.{word_of}
-use Rattle.plain_protocol.specs.Owns.{OwnPart}
-use Rattle.core_events.specs.declared.act.Act.TheVariants as act
-use Rattle.core_events.specs.declared.outcome.Outcome.{Outcome}
-use Rattle.core_events.specs.declared.outcome.Outcome.TheVariants as outcome
-use Rattle.core_events.specs.declared.view.CoreView.{CoreView}
-use Rattle.core_events.specs.Steps.{CanGive, HasRoom, without_given}
-use Rattle.core_events.specs.Words.{slot_in}
-use Rattle.core_law.proofs.ShownPlaces.{word_slot}
-use Rattle.acquire_retire.specs.Calls.{Steps}
-use Rattle.acquire_retire.specs.Collecting.{move}
-use Rattle.acquire_retire.specs.Domains.{DomainState}
-use Rattle.acquire_retire.specs.Seats.{SeatState}
+use Rattle.control_word.specs.plain_state.declared.act.EventPlace.{EventPlace}
+use Rattle.control_word.specs.plain_state.declared.act.PlainAct.{PlainAct}
+use Rattle.control_word.specs.plain_state.declared.slot.SlotId.{SlotId}
+use Rattle.control_word.specs.plain_state.Places.{place_kind}
+use Rattle.control_word.specs.plain_state.State.{Plain}
+use Rattle.control_word.specs.plain_state.Steps.{word_of}
+use Rattle.control_word.specs.plain_protocol.Owns.{OwnPart}
+use Rattle.control_word.specs.core_events.declared.act.Act.TheVariants as act
+use Rattle.control_word.specs.core_events.declared.outcome.Outcome.{Outcome}
+use Rattle.control_word.specs.core_events.declared.outcome.Outcome.TheVariants as outcome
+use Rattle.control_word.specs.core_events.declared.view.CoreView.{CoreView}
+use Rattle.control_word.specs.core_events.Steps.{CanGive, HasRoom, without_given}
+use Rattle.control_word.specs.core_events.Words.{slot_in}
+use Rattle.control_word.proofs.Below.core_law.ShownPlaces.{word_slot}
+use Rattle.control_word.specs.acquire_retire.Calls.{Steps}
+use Rattle.control_word.specs.acquire_retire.Collecting.{move}
+use Rattle.control_word.specs.acquire_retire.Domains.{DomainState}
+use Rattle.control_word.specs.acquire_retire.Seats.{SeatState}
 use Rattle.control_word.specs.Moves.{Becomes, KnowsStill}
 use Rattle.control_word.specs.Resting.{IsAtRest}
 use Rattle.control_word.proofs.Becoming.{knows_after, one_step, rest_after}

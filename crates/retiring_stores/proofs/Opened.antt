@@ -2,35 +2,35 @@
 use Rattle.std.proofs.Common.{◌≡◌, ℕ, ◌<◌, false, List, refl, ap, ◌∙◌, subst, arith}
 use Rattle.std.specs.Prelude.{Option, Some, None, nat_lt}
 use Rattle.std.proofs.lemmas.Bool.Decides.{nat_tests}
-use Rattle.plain_state.specs.declared.act.EventPlace.{EventPlace}
-use Rattle.plain_state.specs.declared.act.EventPlace.TheVariants.{Cell, Field, WeakCell, WeakField}
-use Rattle.plain_state.specs.declared.act.PlainAct.{PlainAct}
-use Rattle.plain_state.specs.declared.slot.Kind.TheVariants.{Strong}
-use Rattle.plain_state.specs.declared.slot.SlotId.{SlotId}
-use Rattle.plain_state.specs.Lists.{times}
-use Rattle.plain_state.specs.State.{Plain}
-use Rattle.plain_protocol.specs.Owns.{OwnPart}
-use Rattle.core_events.specs.declared.act.Act.TheVariants as act
-use Rattle.core_events.specs.declared.shape.Shape.{Shape}
-use Rattle.core_events.specs.declared.view.CoreView.{CoreView}
-use Rattle.core_events.specs.Counts.{adds_used, refs, strong}
-use Rattle.core_events.specs.Runs.{Core, view_at}
-use Rattle.core_events.specs.ShownSteps.{is_ripe_field}
-use Rattle.core_events.specs.Views.{HoldsStrongly, IsOpen}
-use Rattle.core_law.specs.Slots.{numbers}
-use Rattle.core_law.specs.Sound.{Sound}
-use Rattle.core_law.proofs.Flags.{live_low}
-use Rattle.core_law.proofs.Held.{strongly_refs}
-use Rattle.core_law.proofs.InRange.{open_in_range}
-use Rattle.core_law.proofs.Kit.{total_at}
-use Rattle.core_law.proofs.Parts.{value_is}
-use Rattle.core_law.proofs.Put.{adds_fit, at_seat}
-use Rattle.core_law.proofs.Writes.{IsPlace}
-use Rattle.core_law.proofs.Ranges.{counts_low}
-use Rattle.core_law.proofs.Stages.{live_started}
-use Rattle.domain_rule.specs.Told.{cleared_after}
-use Rattle.acquire_retire.specs.Domains.{DomainState}
-use Rattle.acquire_retire.specs.Seats.{SeatState}
+use Rattle.control_word.specs.plain_state.declared.act.EventPlace.{EventPlace}
+use Rattle.control_word.specs.plain_state.declared.act.EventPlace.TheVariants.{Cell, Field, WeakCell, WeakField}
+use Rattle.control_word.specs.plain_state.declared.act.PlainAct.{PlainAct}
+use Rattle.control_word.specs.plain_state.declared.slot.Kind.TheVariants.{Strong}
+use Rattle.control_word.specs.plain_state.declared.slot.SlotId.{SlotId}
+use Rattle.control_word.specs.plain_state.Lists.{times}
+use Rattle.control_word.specs.plain_state.State.{Plain}
+use Rattle.control_word.specs.plain_protocol.Owns.{OwnPart}
+use Rattle.control_word.specs.core_events.declared.act.Act.TheVariants as act
+use Rattle.control_word.specs.core_events.declared.shape.Shape.{Shape}
+use Rattle.control_word.specs.core_events.declared.view.CoreView.{CoreView}
+use Rattle.control_word.specs.core_events.Counts.{adds_used, refs, strong}
+use Rattle.control_word.specs.core_events.Runs.{Core, view_at}
+use Rattle.control_word.specs.core_events.ShownSteps.{is_ripe_field}
+use Rattle.control_word.specs.core_events.Views.{HoldsStrongly, IsOpen}
+use Rattle.control_word.specs.core_law.Slots.{numbers}
+use Rattle.control_word.specs.core_law.Sound.{Sound}
+use Rattle.control_word.proofs.Below.core_law.Flags.{live_low}
+use Rattle.control_word.proofs.Below.core_law.Held.{strongly_refs}
+use Rattle.control_word.proofs.Below.core_law.InRange.{open_in_range}
+use Rattle.control_word.proofs.Below.core_law.Kit.{total_at}
+use Rattle.control_word.proofs.Below.core_law.Parts.{value_is}
+use Rattle.control_word.proofs.Below.core_law.Put.{adds_fit, at_seat}
+use Rattle.control_word.proofs.Below.core_law.Writes.{IsPlace}
+use Rattle.control_word.proofs.Below.core_law.Ranges.{counts_low}
+use Rattle.control_word.proofs.Below.core_law.Stages.{live_started}
+use Rattle.control_word.specs.domain_rule.Told.{cleared_after}
+use Rattle.control_word.specs.acquire_retire.Domains.{DomainState}
+use Rattle.control_word.specs.acquire_retire.Seats.{SeatState}
 use Rattle.retiring_stores.specs.Exchanging.{Stores, Swaps}
 use Rattle.retiring_stores.proofs.Rooming.{sound_before}
 

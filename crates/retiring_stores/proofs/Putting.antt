@@ -3,32 +3,32 @@ use Rattle.std.proofs.Common.{◌≡◌, ◌≢◌, ℕ, Bool, true, false, List
 use Rattle.std.specs.Prelude.{Option, ◌==◌, slice_index, slice_set, if◌then◌else◌}
 use Rattle.std.proofs.lemmas.Bool.Decides.{nat_tests}
 use Rattle.std.proofs.lemmas.List.{get_or-set_same}
-use Rattle.plain_state.specs.declared.act.EventPlace.{EventPlace}
-use Rattle.plain_state.specs.declared.act.PlainAct.{PlainAct}
-use Rattle.plain_state.specs.declared.slot.SlotId.{SlotId}
-use Rattle.plain_state.specs.Places.{content, place_kind}
-use Rattle.plain_state.specs.State.{Plain}
-use Rattle.plain_state.specs.Steps.{word_of}
-use Rattle.plain_protocol.specs.Owns.{OwnPart}
-use Rattle.core_events.specs.declared.act.Act.{Act}
-use Rattle.core_events.specs.declared.act.Act.TheVariants as act
-use Rattle.core_events.specs.declared.outcome.Outcome.{Outcome}
-use Rattle.core_events.specs.declared.outcome.Outcome.TheVariants as outcome
-use Rattle.core_events.specs.declared.view.CoreView.{CoreView}
-use Rattle.core_events.specs.declared.view.Move.{Move}
-use Rattle.core_events.specs.Good.{SeatLaw}
-use Rattle.core_events.specs.Runs.{after, found, view_at}
-use Rattle.core_events.specs.Shows.{shows}
-use Rattle.core_events.specs.Steps.{answer, changed, exchanged, next as next_word, place}
-use Rattle.core_events.specs.Words.{place_at, slot_in}
-use Rattle.core_law.proofs.InRange.{open_in_range, put_in_range}
-use Rattle.core_law.proofs.Writes.{IsPlace, place_bound}
-use Rattle.core_law.proofs.Trails.{changed_trail}
-use Rattle.core_law.proofs.ShownPlaces.{shown_content, slot_word}
-use Rattle.acquire_retire.specs.Calls.{Steps}
-use Rattle.acquire_retire.specs.Collecting.{move}
-use Rattle.acquire_retire.specs.Domains.{DomainState}
-use Rattle.acquire_retire.specs.Seats.{SeatState}
+use Rattle.control_word.specs.plain_state.declared.act.EventPlace.{EventPlace}
+use Rattle.control_word.specs.plain_state.declared.act.PlainAct.{PlainAct}
+use Rattle.control_word.specs.plain_state.declared.slot.SlotId.{SlotId}
+use Rattle.control_word.specs.plain_state.Places.{content, place_kind}
+use Rattle.control_word.specs.plain_state.State.{Plain}
+use Rattle.control_word.specs.plain_state.Steps.{word_of}
+use Rattle.control_word.specs.plain_protocol.Owns.{OwnPart}
+use Rattle.control_word.specs.core_events.declared.act.Act.{Act}
+use Rattle.control_word.specs.core_events.declared.act.Act.TheVariants as act
+use Rattle.control_word.specs.core_events.declared.outcome.Outcome.{Outcome}
+use Rattle.control_word.specs.core_events.declared.outcome.Outcome.TheVariants as outcome
+use Rattle.control_word.specs.core_events.declared.view.CoreView.{CoreView}
+use Rattle.control_word.specs.core_events.declared.view.Move.{Move}
+use Rattle.control_word.specs.core_events.Good.{SeatLaw}
+use Rattle.control_word.specs.core_events.Runs.{after, found, view_at}
+use Rattle.control_word.specs.core_events.Shows.{shows}
+use Rattle.control_word.specs.core_events.Steps.{answer, changed, exchanged, next as next_word, place}
+use Rattle.control_word.specs.core_events.Words.{place_at, slot_in}
+use Rattle.control_word.proofs.Below.core_law.InRange.{open_in_range, put_in_range}
+use Rattle.control_word.proofs.Below.core_law.Writes.{IsPlace, place_bound}
+use Rattle.control_word.proofs.Below.core_law.Trails.{changed_trail}
+use Rattle.control_word.proofs.Below.core_law.ShownPlaces.{shown_content, slot_word}
+use Rattle.control_word.specs.acquire_retire.Calls.{Steps}
+use Rattle.control_word.specs.acquire_retire.Collecting.{move}
+use Rattle.control_word.specs.acquire_retire.Domains.{DomainState}
+use Rattle.control_word.specs.acquire_retire.Seats.{SeatState}
 use Rattle.retiring_stores.specs.Exchanging.{Puts, with_exchanged}
 use Rattle.retiring_stores.proofs.Rooming.{sound_before}
 

@@ -3,20 +3,20 @@ use Rattle.std.proofs.Common.{◌≡◌, ⊎_elim, ℕ, zero, suc, ◌+◌, ◌*
 use Rattle.std.specs.Prelude.{if◌then◌else◌}
 use Rattle.std.proofs.lemmas.Bool.{cases_lt}
 use Rattle.std.proofs.lemmas.List.Sums.{sum_by-cons}
-use Rattle.plain_state.specs.declared.act.PlainAct.{PlainAct}
-use Rattle.plain_state.specs.State.{Plain}
-use Rattle.plain_protocol.specs.Owns.{OwnPart}
-use Rattle.core_events.specs.declared.act.Act.{Act}
-use Rattle.core_events.specs.declared.shape.Shape.{Shape}
-use Rattle.core_events.specs.declared.view.CoreView.{CoreView}
-use Rattle.core_events.specs.Counts.{total}
-use Rattle.core_events.specs.Good.{staying_room}
-use Rattle.core_events.specs.Runs.{Core, view_at}
-use Rattle.core_events.specs.Views.{Terms, no_view, room_of}
-use Rattle.core_law.specs.Sound.{Sound}
-use Rattle.core_law.proofs.Always.{history_sound}
-use Rattle.domain_rule.specs.declared.view.SeatView.{SeatView}
-use Rattle.domain_rule.specs.Told.{Told}
+use Rattle.control_word.specs.plain_state.declared.act.PlainAct.{PlainAct}
+use Rattle.control_word.specs.plain_state.State.{Plain}
+use Rattle.control_word.specs.plain_protocol.Owns.{OwnPart}
+use Rattle.control_word.specs.core_events.declared.act.Act.{Act}
+use Rattle.control_word.specs.core_events.declared.shape.Shape.{Shape}
+use Rattle.control_word.specs.core_events.declared.view.CoreView.{CoreView}
+use Rattle.control_word.specs.core_events.Counts.{total}
+use Rattle.control_word.specs.core_events.Good.{staying_room}
+use Rattle.control_word.specs.core_events.Runs.{Core, view_at}
+use Rattle.control_word.specs.core_events.Views.{Terms, no_view, room_of}
+use Rattle.control_word.specs.core_law.Sound.{Sound}
+use Rattle.control_word.proofs.Below.core_law.Always.{history_sound}
+use Rattle.control_word.specs.domain_rule.declared.view.SeatView.{SeatView}
+use Rattle.control_word.specs.domain_rule.Told.{Told}
 
 staying_least : (v : CoreView) (r : ℕ) → v.room ≡ r → staying_room v ≤ r
 staying_least v r is = go v.left

@@ -1,27 +1,27 @@
 -- What a seat does to a place, and what becomes of it.
 use Rattle.std.specs.Prelude.{ℕ, ◌≡◌, ◌≢◌, List, [], ◌∷◌, ◌++◌, Option}
-use Rattle.plain_state.specs.declared.act.EventPlace.{EventPlace}
-use Rattle.plain_state.specs.declared.act.PlainAct.{PlainAct}
-use Rattle.plain_state.specs.declared.act.PlainAct.TheVariants as plain
-use Rattle.plain_state.specs.declared.slot.Kind.{Kind}
-use Rattle.plain_state.specs.declared.slot.SlotId.{SlotId}
-use Rattle.plain_state.specs.Places.{content, place_kind}
-use Rattle.plain_state.specs.State.{Plain}
-use Rattle.plain_state.specs.Steps.{joined, word_of}
-use Rattle.plain_protocol.specs.Owns.{OwnPart}
-use Rattle.core_events.specs.declared.act.Act.TheVariants as act
-use Rattle.core_events.specs.declared.outcome.Outcome.TheVariants as outcome
-use Rattle.core_events.specs.declared.view.CoreView.{CoreView}
-use Rattle.core_events.specs.declared.view.Move.{Move}
-use Rattle.core_events.specs.Runs.{after}
-use Rattle.core_events.specs.Shows.{shows}
-use Rattle.core_events.specs.ShownSteps.{shown_act}
-use Rattle.core_events.specs.Steps.{without_given}
-use Rattle.domain_rule.specs.Told.{cleared_after}
-use Rattle.acquire_retire.specs.Calls.{Steps}
-use Rattle.acquire_retire.specs.Collecting.{move, rest_of}
-use Rattle.acquire_retire.specs.Domains.{DomainState}
-use Rattle.acquire_retire.specs.Seats.{SeatState}
+use Rattle.control_word.specs.plain_state.declared.act.EventPlace.{EventPlace}
+use Rattle.control_word.specs.plain_state.declared.act.PlainAct.{PlainAct}
+use Rattle.control_word.specs.plain_state.declared.act.PlainAct.TheVariants as plain
+use Rattle.control_word.specs.plain_state.declared.slot.Kind.{Kind}
+use Rattle.control_word.specs.plain_state.declared.slot.SlotId.{SlotId}
+use Rattle.control_word.specs.plain_state.Places.{content, place_kind}
+use Rattle.control_word.specs.plain_state.State.{Plain}
+use Rattle.control_word.specs.plain_state.Steps.{joined, word_of}
+use Rattle.control_word.specs.plain_protocol.Owns.{OwnPart}
+use Rattle.control_word.specs.core_events.declared.act.Act.TheVariants as act
+use Rattle.control_word.specs.core_events.declared.outcome.Outcome.TheVariants as outcome
+use Rattle.control_word.specs.core_events.declared.view.CoreView.{CoreView}
+use Rattle.control_word.specs.core_events.declared.view.Move.{Move}
+use Rattle.control_word.specs.core_events.Runs.{after}
+use Rattle.control_word.specs.core_events.Shows.{shows}
+use Rattle.control_word.specs.core_events.ShownSteps.{shown_act}
+use Rattle.control_word.specs.core_events.Steps.{without_given}
+use Rattle.control_word.specs.domain_rule.Told.{cleared_after}
+use Rattle.control_word.specs.acquire_retire.Calls.{Steps}
+use Rattle.control_word.specs.acquire_retire.Collecting.{move, rest_of}
+use Rattle.control_word.specs.acquire_retire.Domains.{DomainState}
+use Rattle.control_word.specs.acquire_retire.Seats.{SeatState}
 use Rattle.control_word.specs.Moves.{Becomes, last_core}
 use Rattle.retiring_stores.specs.Scanning.{ScansWhereDue}
 

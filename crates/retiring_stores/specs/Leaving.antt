@@ -1,8 +1,8 @@
 -- What a leave does.
 use Rattle.std.specs.Prelude.{List, ℕ}
-use Rattle.acquire_retire.specs.Domains.{DomainState}
-use Rattle.acquire_retire.specs.Leavings.{TookOver}
-use Rattle.acquire_retire.specs.Seats.{SeatState}
+use Rattle.control_word.specs.acquire_retire.Domains.{DomainState}
+use Rattle.control_word.specs.acquire_retire.Leavings.{TookOver}
+use Rattle.control_word.specs.acquire_retire.Seats.{SeatState}
 use Rattle.retiring_stores.specs.Scanning.{ScansWhereDue}
 
 -- seat 0 has taken over what the seat had, and then collected where that was due

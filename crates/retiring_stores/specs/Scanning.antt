@@ -1,12 +1,12 @@
 -- When a scan is due, and what a collect leaves of a seat that is at rest.
 use Rattle.std.specs.Prelude.{ℕ, ◌≡◌, ◌⊎◌, ◌<◌, ◌≤◌, List, length}
-use Rattle.plain_state.specs.declared.slot.SlotId.{SlotId}
-use Rattle.plain_state.specs.Lists.{times}
-use Rattle.core_events.specs.Views.{room_of}
-use Rattle.acquire_retire.specs.declared.payment.Work.{Work}
-use Rattle.acquire_retire.specs.Collecting.{Collects}
-use Rattle.acquire_retire.specs.Domains.{DomainState}
-use Rattle.acquire_retire.specs.Seats.{SeatState}
+use Rattle.control_word.specs.plain_state.declared.slot.SlotId.{SlotId}
+use Rattle.control_word.specs.plain_state.Lists.{times}
+use Rattle.control_word.specs.core_events.Views.{room_of}
+use Rattle.control_word.specs.acquire_retire.declared.payment.Work.{Work}
+use Rattle.control_word.specs.acquire_retire.Collecting.{Collects}
+use Rattle.control_word.specs.acquire_retire.Domains.{DomainState}
+use Rattle.control_word.specs.acquire_retire.Seats.{SeatState}
 use Rattle.control_word.specs.Moves.{KnowsStill}
 use Rattle.control_word.specs.Resting.{IsAtRest}
 

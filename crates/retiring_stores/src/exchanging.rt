@@ -1,18 +1,17 @@
 //! Calls that change a place, and scan where that is due.
 ghost use Rattle.std.specs.Prelude.{◌≡◌, IfErr, IfOk, Option};
-ghost use Rattle.plain_state.specs.Places.{place_kind};
-ghost use Rattle.core_events.specs.declared.act.Act.TheVariants as act;
-ghost use Rattle.core_events.specs.declared.outcome.Outcome.TheVariants as outcome;
-ghost use Rattle.core_events.specs.Steps.{HasRoom, May, without_given};
-ghost use Rattle.acquire_retire.specs.Calls.{IsReady};
+ghost use Rattle.control_word.specs.plain_state.Places.{place_kind};
+ghost use Rattle.control_word.specs.core_events.declared.act.Act.TheVariants as act;
+ghost use Rattle.control_word.specs.core_events.declared.outcome.Outcome.TheVariants as outcome;
+ghost use Rattle.control_word.specs.core_events.Steps.{HasRoom, May, without_given};
+ghost use Rattle.control_word.specs.acquire_retire.Calls.{IsReady};
 ghost use Rattle.control_word.specs.Moves.{KnowsStill};
 ghost use Rattle.control_word.specs.Resting.{IsAtRest};
 ghost use Rattle.retiring_stores.specs.Exchanging.{Loses, Replaces, Swaps};
 ghost use Rattle.retiring_stores.specs.Scanning.{IsBelow};
 
 use crate::scanning::scan_where_due;
-use acquire_retire::{Domain, EventPlace, Outcome, Seat, SlotId};
-use plain_protocol::{Deed, Protocol};
+use control_word::{Deed, Domain, EventPlace, Outcome, Protocol, Seat, SlotId};
 
 /// Puts null, or a reference that the seat gives, into a place, and answers what the place held: that is retired. One
 /// step with the deed, and a collect where the seat's retired entries are then so many that one is due.

@@ -1,14 +1,13 @@
 //! A seat leaves, and seat 0 takes over what it has.
 ghost use Rattle.std.specs.Prelude.{◌≡◌};
-ghost use Rattle.core_events.specs.Steps.{HasRoom};
-ghost use Rattle.acquire_retire.specs.Leavings.{TookOver};
+ghost use Rattle.control_word.specs.core_events.Steps.{HasRoom};
+ghost use Rattle.control_word.specs.acquire_retire.Leavings.{TookOver};
 ghost use Rattle.control_word.specs.Resting.{IsAtRest, IsUnderNone};
 ghost use Rattle.retiring_stores.specs.Leaving.{Leaves};
 ghost use Rattle.retiring_stores.specs.Scanning.{IsBelow};
 
 use crate::scanning::scan_where_due;
-use acquire_retire::{Domain, Seat};
-use plain_protocol::Protocol;
+use control_word::{Domain, Protocol, Seat};
 
 /// The seat leaves, and seat 0 takes over its references, what it retired and what it ended, and joins its client view
 /// to its own; then it collects, where that is due. Both seats are in no call and under no snapshot, and so is seat 0

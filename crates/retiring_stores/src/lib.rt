@@ -21,9 +21,8 @@
 mod exchanging;
 mod leaving;
 mod scanning;
-#[cfg(test)]
-mod tests;
 
+pub use control_word::{Domain, EventPlace, Outcome, Seat, SlotId, Strong, has_bit, held_as};
 pub use exchanging::{compare_exchange, exchange};
 pub use leaving::leave;
 pub use scanning::{collect, scan_where_due};

@@ -1,12 +1,11 @@
 //! A scan where one is due.
 ghost use Rattle.std.specs.Prelude.{◌≡◌, ◌↔◌, IsTrue};
-ghost use Rattle.acquire_retire.specs.Calls.{IsOf};
+ghost use Rattle.control_word.specs.acquire_retire.Calls.{IsOf};
 ghost use Rattle.control_word.specs.Moves.{KnowsStill};
 ghost use Rattle.control_word.specs.Resting.{IsAtRest};
 ghost use Rattle.retiring_stores.specs.Scanning.{Collected, IsBelow, IsDue, ScansWhereDue};
 
-use acquire_retire::{Domain, Seat};
-use plain_protocol::Protocol;
+use control_word::{Domain, Protocol, Seat};
 
 /// Collects, where the seat has retired as many entries as there are announcement words, and a batch. Fewer are retired
 /// afterwards. At most a step for each announcement word, and three for each retired entry.

@@ -3,16 +3,16 @@ use Rattle.std.proofs.Common.{◌≡◌, ⊎_elim, ℕ, ◌<◌, List, [], ◌�
 use Rattle.std.proofs.lemmas.Bool.{cases_lt}
 use Rattle.std.proofs.lemmas.List.{get_or_past}
 use Rattle.std.proofs.lemmas.List.Elements.{All-cons}
-use Rattle.heap_audit.specs.declared.finding.Audit.{Audit}
-use Rattle.heap_audit.specs.Paths.{Path}
-use Rattle.heap_audit.specs.Walks.{GoesRound}
+use Rattle.plain_audit.specs.heap_audit.declared.finding.Audit.{Audit}
+use Rattle.plain_audit.specs.heap_audit.Paths.{Path}
+use Rattle.plain_audit.specs.heap_audit.Walks.{GoesRound}
 use Rattle.plain_audit.specs.Audits.{IsAudit}
 use Rattle.plain_audit.specs.Reached.{HasField}
-use Rattle.plain_state.specs.declared.slot.SlotId.{SlotId}
-use Rattle.plain_state.specs.declared.slot.PlainSlot.{PlainSlot}
-use Rattle.plain_state.specs.declared.slot.Stage.TheVariants.{Free, Live}
-use Rattle.plain_state.specs.State.{Plain, new_slot, stage_at}
-use Rattle.plain_state.proofs.Kit.{none_or_some}
+use Rattle.plain_audit.specs.plain_state.declared.slot.SlotId.{SlotId}
+use Rattle.plain_audit.specs.plain_state.declared.slot.PlainSlot.{PlainSlot}
+use Rattle.plain_audit.specs.plain_state.declared.slot.Stage.TheVariants.{Free, Live}
+use Rattle.plain_audit.specs.plain_state.State.{Plain, new_slot, stage_at}
+use Rattle.plain_audit.proofs.Below.plain_state.Kit.{none_or_some}
 use Rattle.script_desk.specs.declared.said.Said.TheVariants.{Audited}
 use Rattle.script_desk.specs.declared.said.Shown.{Shown}
 use Rattle.script_desk.specs.Audits.{AreRanks, Shows, AnswersAudit}

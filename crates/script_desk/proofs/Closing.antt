@@ -3,12 +3,12 @@ use Rattle.std.proofs.Common.{◌≡◌, ℕ, ◌<◌, true, false, List, [], �
 use Rattle.std.specs.List.{sum_by}
 use Rattle.std.proofs.lemmas.List.{length-set, length-replicate, get_or-set_same, set-get_or, set-set}
 use Rattle.std.proofs.lemmas.List.Sums.{sum_by-cons}
-use Rattle.plain_state.specs.declared.slot.Kind.TheVariants as kind
-use Rattle.plain_state.specs.declared.slot.SlotId.{SlotId}
-use Rattle.plain_state.specs.Lists.{Entry, times, entry_times}
-use Rattle.plain_state.specs.State.{Plain, PlainSeat, new_seat, new_slot, seat_at, with_seat, empty}
-use Rattle.plain_state.specs.Steps.{Does}
-use Rattle.plain_state.proofs.Kit.{held_self, times_none, times_cons, entry_none, entry_cons}
+use Rattle.plain_audit.specs.plain_state.declared.slot.Kind.TheVariants as kind
+use Rattle.plain_audit.specs.plain_state.declared.slot.SlotId.{SlotId}
+use Rattle.plain_audit.specs.plain_state.Lists.{Entry, times, entry_times}
+use Rattle.plain_audit.specs.plain_state.State.{Plain, PlainSeat, new_seat, new_slot, seat_at, with_seat, empty}
+use Rattle.plain_audit.specs.plain_state.Steps.{Does}
+use Rattle.plain_audit.proofs.Below.plain_state.Kit.{held_self, times_none, times_cons, entry_none, entry_cons}
 use Rattle.script_desk.specs.declared.handle.Handle.{Handle}
 use Rattle.script_desk.specs.declared.handle.Handle.TheVariants.{Strong, Weak, Snapshot}
 use Rattle.script_desk.specs.Desks.{Names, Maker, without_handles}

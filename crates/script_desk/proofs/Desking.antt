@@ -1,9 +1,9 @@
 -- A place that was found by the names of a desk, and a desk whose heap has settled.
 use Rattle.std.proofs.Common.{◌≡◌, ℕ, List, refl, sym, subst}
-use Rattle.plain_state.specs.declared.act.EventPlace.{EventPlace}
-use Rattle.plain_state.specs.Places.{IsOpen}
-use Rattle.plain_state.specs.State.{Plain}
-use Rattle.plain_store.specs.Settling.{IsSettled, SettlesTo}
+use Rattle.plain_audit.specs.plain_state.declared.act.EventPlace.{EventPlace}
+use Rattle.plain_audit.specs.plain_state.Places.{IsOpen}
+use Rattle.plain_audit.specs.plain_state.State.{Plain}
+use Rattle.plain_settling.specs.plain_store.Settling.{IsSettled, SettlesTo}
 use Rattle.plain_settling.proofs.Settling.{settles_so}
 use Rattle.script_lines.specs.declared.command.TextPlace.{TextPlace}
 use Rattle.script_desk.specs.Desks.{Desk, Maker, Names, Settles, scope_of}

@@ -1,21 +1,21 @@
 -- The steps that give the seat a handle, and those that take one away.
 use Rattle.std.proofs.Common.{◌≡◌, ⊎_elim, ℕ, ◌+◌, ◌<◌, Bool, true, false, List, [], ◌∷◌, ◌++◌, length, refl, ap, sym, subst, ◌∙◌, arith, Some, None}
-use Rattle.plain_state.specs.declared.act.EventPlace.{EventPlace}
-use Rattle.plain_state.specs.declared.act.PlainAct.TheVariants as act
-use Rattle.plain_state.specs.declared.slot.Kind.{Kind}
-use Rattle.plain_state.specs.declared.slot.Kind.TheVariants as kind
-use Rattle.plain_state.specs.declared.slot.SlotId.{SlotId}
-use Rattle.plain_state.specs.Lists.{times, entry_times, Loses}
-use Rattle.plain_state.specs.Places.{place_kind, content}
-use Rattle.plain_state.specs.Runs.{Runs}
-use Rattle.plain_state.specs.State.{Plain, PlainSeat, seat_at, with_seat}
-use Rattle.plain_state.specs.Steps.{Does, GivesUp, Replaces, joined}
-use Rattle.plain_state.proofs.Kit.{times_push, times_loses, entry_loses}
-use Rattle.plain_store.specs.Heaps.{Makes, fills}
-use Rattle.plain_store.specs.Calls.{Gains, WeaklyGains, Loads, WeaklyLoads, strong_place}
+use Rattle.plain_audit.specs.plain_state.declared.act.EventPlace.{EventPlace}
+use Rattle.plain_audit.specs.plain_state.declared.act.PlainAct.TheVariants as act
+use Rattle.plain_audit.specs.plain_state.declared.slot.Kind.{Kind}
+use Rattle.plain_audit.specs.plain_state.declared.slot.Kind.TheVariants as kind
+use Rattle.plain_audit.specs.plain_state.declared.slot.SlotId.{SlotId}
+use Rattle.plain_audit.specs.plain_state.Lists.{times, entry_times, Loses}
+use Rattle.plain_audit.specs.plain_state.Places.{place_kind, content}
+use Rattle.plain_audit.specs.plain_state.Runs.{Runs}
+use Rattle.plain_audit.specs.plain_state.State.{Plain, PlainSeat, seat_at, with_seat}
+use Rattle.plain_audit.specs.plain_state.Steps.{Does, GivesUp, Replaces, joined}
+use Rattle.plain_audit.proofs.Below.plain_state.Kit.{times_push, times_loses, entry_loses}
+use Rattle.plain_settling.specs.plain_store.Heaps.{Makes, fills}
+use Rattle.plain_settling.specs.plain_store.Calls.{Gains, WeaklyGains, Loads, WeaklyLoads, strong_place}
 use Rattle.plain_settling.specs.Snapshots.{IsUnderMore, Takes}
-use Rattle.plain_store.specs.declared.place.PlainPlace.{PlainPlace}
-use Rattle.plain_store.specs.declared.place.PlainPlace.TheVariants as strong
+use Rattle.plain_settling.specs.plain_store.declared.place.PlainPlace.{PlainPlace}
+use Rattle.plain_settling.specs.plain_store.declared.place.PlainPlace.TheVariants as strong
 use Rattle.script_desk.specs.declared.handle.Handle.{Handle}
 use Rattle.script_desk.specs.declared.handle.Handle.TheVariants.{Strong, Weak, Snapshot}
 use Rattle.script_desk.specs.Holding.{owned_by, weakly_owned_by, announced_by, not_strong, SameSizes, HasMore, HasSame, giving}

@@ -1,6 +1,6 @@
 -- The three commands that give up what a name is bound to.
 use Rattle.std.proofs.Common.{◌≡◌, ◌⊎◌, ⊎_elim, ℕ, true, List, [], refl, sym, subst, Some}
-use Rattle.plain_state.specs.Steps.{Does}
+use Rattle.plain_audit.specs.plain_state.Steps.{Does}
 use Rattle.script_lines.specs.declared.command.Command.{Command}
 use Rattle.script_lines.specs.declared.command.Command.TheVariants as command
 use Rattle.script_desk.specs.declared.handle.Handle.{Handle}

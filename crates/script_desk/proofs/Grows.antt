@@ -2,13 +2,13 @@
 use Rattle.std.proofs.Common.{◌≡◌, ◌<◌, List, length, refl, ap, ◌∙◌, Option}
 use Rattle.std.specs.Prelude.{slice_index_or}
 use Rattle.std.proofs.lemmas.List.{length-set, get_or-set_same}
-use Rattle.plain_state.specs.declared.act.EventPlace.{EventPlace}
-use Rattle.plain_state.specs.declared.act.EventPlace.TheVariants.{Cell, Field, WeakCell, WeakField}
-use Rattle.plain_state.specs.declared.slot.Kind.TheVariants as kind
-use Rattle.plain_state.specs.declared.slot.SlotId.{SlotId}
-use Rattle.plain_state.specs.Lists.{times, entry_times}
-use Rattle.plain_state.specs.Places.{with_content}
-use Rattle.plain_state.specs.State.{Plain, PlainSeat, new_seat, seat_at, with_seat}
+use Rattle.plain_audit.specs.plain_state.declared.act.EventPlace.{EventPlace}
+use Rattle.plain_audit.specs.plain_state.declared.act.EventPlace.TheVariants.{Cell, Field, WeakCell, WeakField}
+use Rattle.plain_audit.specs.plain_state.declared.slot.Kind.TheVariants as kind
+use Rattle.plain_audit.specs.plain_state.declared.slot.SlotId.{SlotId}
+use Rattle.plain_audit.specs.plain_state.Lists.{times, entry_times}
+use Rattle.plain_audit.specs.plain_state.Places.{with_content}
+use Rattle.plain_audit.specs.plain_state.State.{Plain, PlainSeat, new_seat, seat_at, with_seat}
 use Rattle.script_desk.specs.Holding.{not_strong, SameSizes, HasSame}
 
 -- seat 0 after a write

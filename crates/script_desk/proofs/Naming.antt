@@ -1,10 +1,10 @@
 -- A desk after a handle was given, and got a name or was given up again.
 use Rattle.std.proofs.Common.{◌≡◌, ◌∙◌, ℕ, List, refl, ap, sym, subst, Option, Some, None, IfSome}
 use Rattle.std.specs.Map.{values_of}
-use Rattle.plain_state.specs.State.{Plain}
-use Rattle.plain_state.specs.Steps.{Does}
+use Rattle.plain_audit.specs.plain_state.State.{Plain}
+use Rattle.plain_audit.specs.plain_state.Steps.{Does}
 use Rattle.script_desk.specs.declared.handle.Handle.{Handle}
-use Rattle.plain_state.specs.declared.slot.SlotId.{SlotId}
+use Rattle.plain_audit.specs.plain_state.declared.slot.SlotId.{SlotId}
 use Rattle.script_desk.specs.Handles.{slot_of}
 use Rattle.script_desk.specs.Desks.{Desk, Names, Maker, bound}
 use Rattle.script_desk.specs.Holding.{HasHandle, HoldsFor, HasMore, CountsMore, Kept, giving}

@@ -2,15 +2,15 @@
 use Rattle.std.proofs.Common.{◌≡◌, inl, ℕ, Bool, true, false, List, [], ◌∷◌, ◌++◌, refl, sym, ◌∙◌, subst, arith, Option, Some, None, IsSomeAnd}
 use Rattle.std.proofs.lemmas.List.Elements.{All-nil, All-head, All-tail, All-cons}
 use Rattle.std.specs.List.{Any}
-use Rattle.plain_state.specs.declared.slot.SlotId.{SlotId}
-use Rattle.plain_state.specs.Places.{HoldsStrongly}
-use Rattle.plain_state.specs.State.{Plain, seat_at}
+use Rattle.plain_audit.specs.plain_state.declared.slot.SlotId.{SlotId}
+use Rattle.plain_audit.specs.plain_state.Places.{HoldsStrongly}
+use Rattle.plain_audit.specs.plain_state.State.{Plain, seat_at}
 use Rattle.script_lines.specs.declared.command.Command.{Command}
 use Rattle.script_desk.proofs.Anys.{any_head, any_tail}
 use Rattle.script_desk.specs.declared.handle.Handle.{Handle}
 use Rattle.script_desk.specs.declared.handle.Handle.TheVariants.{Strong, Weak, Snapshot}
-use Rattle.plain_state.specs.declared.act.EventPlace.{EventPlace}
-use Rattle.plain_state.specs.Places.{IsOpen}
+use Rattle.plain_audit.specs.plain_state.declared.act.EventPlace.{EventPlace}
+use Rattle.plain_audit.specs.plain_state.Places.{IsOpen}
 use Rattle.script_lines.specs.declared.command.TextPlace.{TextPlace}
 use Rattle.script_lines.specs.declared.command.TextPlace.TheVariants as text
 use Rattle.script_desk.specs.Desks.{Desk, Names, Scope, bound, scope_of}

@@ -2,16 +2,16 @@
 use Rattle.std.proofs.Common.{[], MatchOption, ◌≡◌, ⊎_elim, ℕ, ◌<◌, Bool, true, List, length, refl, ap, sym, ◌∙◌, subst, Option, Some, None, IfSome}
 use Rattle.std.specs.Map.{values_of}
 use Rattle.std.specs.Option.{option_and_then}
-use Rattle.plain_state.specs.declared.act.EventPlace.{EventPlace}
-use Rattle.plain_state.specs.declared.slot.Kind.TheVariants as kind
-use Rattle.plain_state.specs.declared.slot.SlotId.{SlotId}
-use Rattle.plain_state.specs.Places.{place_kind}
-use Rattle.plain_state.specs.State.{Plain}
-use Rattle.plain_state.specs.Steps.{Replaces}
-use Rattle.plain_store.specs.Calls.{Puts, Tries, strong_place, weak_place}
-use Rattle.plain_store.specs.declared.place.PlainPlace.{PlainPlace}
-use Rattle.plain_store.specs.declared.place.PlainWeakPlace.{PlainWeakPlace}
-use Rattle.plain_store.specs.declared.place.PlainWeakPlace.TheVariants as weak
+use Rattle.plain_audit.specs.plain_state.declared.act.EventPlace.{EventPlace}
+use Rattle.plain_audit.specs.plain_state.declared.slot.Kind.TheVariants as kind
+use Rattle.plain_audit.specs.plain_state.declared.slot.SlotId.{SlotId}
+use Rattle.plain_audit.specs.plain_state.Places.{place_kind}
+use Rattle.plain_audit.specs.plain_state.State.{Plain}
+use Rattle.plain_audit.specs.plain_state.Steps.{Replaces}
+use Rattle.plain_settling.specs.plain_store.Calls.{Puts, Tries, strong_place, weak_place}
+use Rattle.plain_settling.specs.plain_store.declared.place.PlainPlace.{PlainPlace}
+use Rattle.plain_settling.specs.plain_store.declared.place.PlainWeakPlace.{PlainWeakPlace}
+use Rattle.plain_settling.specs.plain_store.declared.place.PlainWeakPlace.TheVariants as weak
 use Rattle.script_desk.specs.declared.handle.Handle.{Handle}
 use Rattle.script_desk.specs.declared.handle.Handle.TheVariants.{Strong, Weak, Snapshot}
 use Rattle.script_desk.specs.declared.place.HeapPlace.{HeapPlace}

@@ -2,7 +2,7 @@
 use Rattle.std.proofs.Common.{◌≡◌, ℕ, ◌+◌, ◌<◌, ◌≤◌, List, [], ◌∷◌, ◌++◌, length, get_or, take, map, ap, sym, ◌∙◌, subst, arith}
 use Rattle.std.specs.Prelude.{slice_index}
 use Rattle.std.proofs.lemmas.List.{take_more, take_all, map-append, length-map, get_or-map}
-use Rattle.plain_state.specs.State.{Plain}
+use Rattle.plain_audit.specs.plain_state.State.{Plain}
 use Rattle.script_desk.specs.Audits.{AreRanks}
 use Rattle.script_desk.specs.Desks.{Desk, Names, Maker, nobody}
 use Rattle.script_desk.specs.Holding.{Kept}

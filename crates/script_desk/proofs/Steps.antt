@@ -1,15 +1,15 @@
 -- A heap that settles leaves what the seat has.
 use Rattle.std.proofs.Common.{◌≡◌, ℕ, ◌<◌, List, [], ◌∷◌, ◌++◌, length, refl, ap, sym, subst, ◌∙◌, None}
 use Rattle.std.proofs.lemmas.List.{length-set}
-use Rattle.plain_state.specs.declared.act.EventPlace.{EventPlace}
-use Rattle.plain_state.specs.declared.act.PlainAct.{PlainAct}
-use Rattle.plain_state.specs.declared.act.PlainAct.TheVariants as act
-use Rattle.plain_state.specs.declared.slot.SlotId.{SlotId}
-use Rattle.plain_state.specs.declared.slot.PlainSlot.{PlainSlot}
-use Rattle.plain_state.specs.State.{Plain, PlainSeat, seat_at, with_seat, with_slot}
-use Rattle.plain_state.specs.Places.{place_kind, content}
-use Rattle.plain_state.specs.Steps.{Does, joined}
-use Rattle.plain_store.specs.Settling.{Settles, SettlesBy, SettlesTo}
+use Rattle.plain_audit.specs.plain_state.declared.act.EventPlace.{EventPlace}
+use Rattle.plain_audit.specs.plain_state.declared.act.PlainAct.{PlainAct}
+use Rattle.plain_audit.specs.plain_state.declared.act.PlainAct.TheVariants as act
+use Rattle.plain_audit.specs.plain_state.declared.slot.SlotId.{SlotId}
+use Rattle.plain_audit.specs.plain_state.declared.slot.PlainSlot.{PlainSlot}
+use Rattle.plain_audit.specs.plain_state.State.{Plain, PlainSeat, seat_at, with_seat, with_slot}
+use Rattle.plain_audit.specs.plain_state.Places.{place_kind, content}
+use Rattle.plain_audit.specs.plain_state.Steps.{Does, joined}
+use Rattle.plain_settling.specs.plain_store.Settling.{Settles, SettlesBy, SettlesTo}
 use Rattle.script_desk.specs.Holding.{HasSame}
 use Rattle.script_desk.proofs.Grows.{has_lists, same_by, seat_written, placed, placed_same_sizes}
 

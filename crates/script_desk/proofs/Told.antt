@@ -2,12 +2,12 @@
 use Rattle.std.proofs.Common.{◌≡◌, ◌≢◌, inl, inr, ℕ, ◌+◌, ◌<◌, List, length, refl, ap, sym, ◌∙◌, subst, arith, Some}
 use Rattle.std.specs.Prelude.{slice_index_or, slice_set}
 use Rattle.std.proofs.lemmas.List.{length-set, get_or-set_same, get_or-set_other}
-use Rattle.plain_state.specs.declared.act.EventPlace.{EventPlace}
-use Rattle.plain_state.specs.declared.slot.SlotId.{SlotId}
-use Rattle.plain_state.specs.State.{Plain}
-use Rattle.plain_state.proofs.Kit.{slot_is}
-use Rattle.plain_store.specs.Heaps.{Makes}
-use Rattle.plain_store.specs.Calls.{Loads, WeaklyLoads}
+use Rattle.plain_audit.specs.plain_state.declared.act.EventPlace.{EventPlace}
+use Rattle.plain_audit.specs.plain_state.declared.slot.SlotId.{SlotId}
+use Rattle.plain_audit.specs.plain_state.State.{Plain}
+use Rattle.plain_audit.proofs.Below.plain_state.Kit.{slot_is}
+use Rattle.plain_settling.specs.plain_store.Heaps.{Makes}
+use Rattle.plain_settling.specs.plain_store.Calls.{Loads, WeaklyLoads}
 use Rattle.script_desk.specs.declared.handle.Handle.TheVariants.{Strong, Weak}
 use Rattle.script_desk.specs.declared.said.Said.TheVariants as said
 use Rattle.script_desk.specs.Desks.{Desk, Names, Maker, nobody, Binds}

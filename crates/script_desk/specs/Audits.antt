@@ -1,8 +1,8 @@
 -- What an audit of a script answers.
 use Rattle.std.specs.Prelude.{ℕ, ◌≡◌, ◌<◌, List, length, slice_index, map, string_bytes}
-use Rattle.heap_audit.specs.declared.finding.Audit.{Audit}
+use Rattle.plain_audit.specs.heap_audit.declared.finding.Audit.{Audit}
 use Rattle.plain_audit.specs.Audits.{IsAudit}
-use Rattle.plain_state.specs.declared.slot.SlotId.{SlotId}
+use Rattle.plain_audit.specs.plain_state.declared.slot.SlotId.{SlotId}
 use Rattle.script_desk.specs.declared.said.Said.{Said}
 use Rattle.script_desk.specs.declared.said.Said.TheVariants.{Audited}
 use Rattle.script_desk.specs.declared.said.Shown.{Shown}

@@ -2,9 +2,9 @@
 use Rattle.std.specs.Prelude.{ℕ, ◌≡◌, ◌≢◌, ◌+◌, List, [], length, Option, slice_index_or}
 use Rattle.std.specs.Map.{lookup}
 use Rattle.std.specs.Str.{bytes_eq}
-use Rattle.plain_state.specs.declared.slot.SlotId.{SlotId}
-use Rattle.plain_state.specs.State.{Plain, seat_at, with_seat}
-use Rattle.plain_store.specs.Settling.{IsSettled}
+use Rattle.plain_audit.specs.plain_state.declared.slot.SlotId.{SlotId}
+use Rattle.plain_audit.specs.plain_state.State.{Plain, seat_at, with_seat}
+use Rattle.plain_settling.specs.plain_store.Settling.{IsSettled}
 use Rattle.plain_settling.specs.Settling.{TidiesTo}
 use Rattle.script_desk.specs.declared.handle.Handle.{Handle}
 use Rattle.script_desk.specs.declared.sizes.Sizes.{Sizes}

@@ -1,14 +1,14 @@
 -- What each command does: the plain steps that it makes, what becomes of the names, and what it answers.
 use Rattle.std.specs.Prelude.{ℕ, ◌≡◌, ◌⊎◌, Bool, true, false, List, slice_index, Option, Some, None}
-use Rattle.plain_state.specs.declared.act.EventPlace.{EventPlace}
-use Rattle.plain_state.specs.declared.act.EventPlace.TheVariants.{Cell, Field, WeakCell, WeakField}
-use Rattle.plain_state.specs.declared.act.PlainAct.TheVariants as act
-use Rattle.plain_state.specs.declared.slot.SlotId.{SlotId}
-use Rattle.plain_state.specs.State.{slot_at}
-use Rattle.plain_state.specs.References.{strong_refs, weak_refs}
-use Rattle.plain_state.specs.Steps.{Does}
-use Rattle.plain_store.specs.Heaps.{NoneFree, Makes}
-use Rattle.plain_store.specs.Calls.{Gains, WeaklyGains, Puts, Tries, Loads, WeaklyLoads, ending}
+use Rattle.plain_audit.specs.plain_state.declared.act.EventPlace.{EventPlace}
+use Rattle.plain_audit.specs.plain_state.declared.act.EventPlace.TheVariants.{Cell, Field, WeakCell, WeakField}
+use Rattle.plain_audit.specs.plain_state.declared.act.PlainAct.TheVariants as act
+use Rattle.plain_audit.specs.plain_state.declared.slot.SlotId.{SlotId}
+use Rattle.plain_audit.specs.plain_state.State.{slot_at}
+use Rattle.plain_audit.specs.plain_state.References.{strong_refs, weak_refs}
+use Rattle.plain_audit.specs.plain_state.Steps.{Does}
+use Rattle.plain_settling.specs.plain_store.Heaps.{NoneFree, Makes}
+use Rattle.plain_settling.specs.plain_store.Calls.{Gains, WeaklyGains, Puts, Tries, Loads, WeaklyLoads, ending}
 use Rattle.plain_settling.specs.Snapshots.{Takes}
 use Rattle.script_lines.specs.declared.command.Command.{Command}
 use Rattle.script_lines.specs.declared.command.Command.TheVariants as command

@@ -1,6 +1,6 @@
 -- What a name is bound to: a strong handle, a weak one, or a snapshot.
 use Rattle.std.specs.Prelude.{Bool, true, false}
-use Rattle.plain_state.specs.declared.slot.SlotId.{SlotId}
+use Rattle.plain_audit.specs.plain_state.declared.slot.SlotId.{SlotId}
 use Rattle.script_desk.specs.declared.handle.Handle.{Handle}
 use Rattle.script_desk.specs.declared.handle.Handle.TheVariants.{Strong, Weak, Snapshot}
 

@@ -2,15 +2,15 @@
 use Rattle.std.specs.Prelude.{ℕ, ◌≡◌, ◌+◌, true, false, List, length, Some}
 use Rattle.std.specs.List.{sum_by}
 use Rattle.std.specs.Map.{values_of}
-use Rattle.plain_state.specs.declared.act.PlainAct.{PlainAct}
-use Rattle.plain_state.specs.declared.act.PlainAct.TheVariants as act
-use Rattle.plain_state.specs.declared.slot.Kind.TheVariants as kind
-use Rattle.plain_state.specs.declared.slot.SlotId.{SlotId}
-use Rattle.plain_state.specs.Lists.{Entry, times, entry_times}
-use Rattle.plain_state.specs.State.{Plain, seat_at}
-use Rattle.plain_state.specs.References.{held_in}
-use Rattle.plain_store.specs.Heaps.{Owns, OwnsWeakly}
-use Rattle.plain_store.specs.Calls.{HasSnapshot, ending}
+use Rattle.plain_audit.specs.plain_state.declared.act.PlainAct.{PlainAct}
+use Rattle.plain_audit.specs.plain_state.declared.act.PlainAct.TheVariants as act
+use Rattle.plain_audit.specs.plain_state.declared.slot.Kind.TheVariants as kind
+use Rattle.plain_audit.specs.plain_state.declared.slot.SlotId.{SlotId}
+use Rattle.plain_audit.specs.plain_state.Lists.{Entry, times, entry_times}
+use Rattle.plain_audit.specs.plain_state.State.{Plain, seat_at}
+use Rattle.plain_audit.specs.plain_state.References.{held_in}
+use Rattle.plain_settling.specs.plain_store.Heaps.{Owns, OwnsWeakly}
+use Rattle.plain_settling.specs.plain_store.Calls.{HasSnapshot, ending}
 use Rattle.script_desk.specs.Desks.{Maker, Names}
 use Rattle.script_desk.specs.declared.handle.Handle.{Handle}
 use Rattle.script_desk.specs.declared.handle.Handle.TheVariants.{Strong, Weak, Snapshot}

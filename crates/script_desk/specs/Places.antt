@@ -1,7 +1,7 @@
 -- The places that a script names, as the heap has them.
 use Rattle.std.specs.Prelude.{ℕ, ◌≡◌, Bool, true, false, List, All, IsSomeAnd}
-use Rattle.plain_state.specs.declared.act.EventPlace.{EventPlace}
-use Rattle.plain_store.specs.Calls.{strong_place, weak_place}
+use Rattle.plain_audit.specs.plain_state.declared.act.EventPlace.{EventPlace}
+use Rattle.plain_settling.specs.plain_store.Calls.{strong_place, weak_place}
 use Rattle.script_desk.specs.declared.handle.Handle.{Handle}
 use Rattle.script_desk.specs.declared.place.HeapPlace.{HeapPlace}
 use Rattle.script_desk.specs.declared.place.HeapPlace.TheVariants.{Strong, Weak}

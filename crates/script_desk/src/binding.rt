@@ -1,9 +1,9 @@
 //! A handle that the heap gave gets a name, or is given up.
 ghost use Rattle.std.specs.Prelude.{◌≡◌, Bool, true, IfOk, IfSome, IsSomeAnd, OnOk, OnErr, Some, None};
 ghost use Rattle.std.specs.Map.{values_of};
-ghost use Rattle.plain_state.specs.declared.slot.SlotId.{SlotId};
-ghost use Rattle.plain_state.specs.Steps.{Does};
-ghost use Rattle.plain_store.specs.Calls.{Gains};
+ghost use Rattle.plain_audit.specs.plain_state.declared.slot.SlotId.{SlotId};
+ghost use Rattle.plain_audit.specs.plain_state.Steps.{Does};
+ghost use Rattle.plain_settling.specs.plain_store.Calls.{Gains};
 ghost use Rattle.script_desk.specs.declared.handle.Handle.TheVariants.{Snapshot};
 ghost use Rattle.script_desk.specs.Handles.{is_snapshot};
 ghost use Rattle.script_desk.specs.Desks.{bound, Binds};
@@ -12,10 +12,9 @@ ghost use Rattle.script_desk.specs.Holding.{HasHandle, CountsMore, giving};
 use crate::handle::Handle;
 use crate::kind::ScriptKind;
 use crate::names::NameTable;
-use cdrc_plain::PlainHeap;
-use out_of_memory::{Back, OutOfMemory};
-use plain_store::Hand;
-use script_lines::Name;
+use plain_audit::PlainHeap;
+use plain_settling::Hand;
+use script_lines::{Back, Name, OutOfMemory};
 use std::alloc::Global;
 
 /// Gives the handle up.

@@ -5,7 +5,7 @@ ghost use Rattle.script_desk.specs.Holding.{Kept};
 use crate::kind::ScriptKind;
 use crate::maker::Make;
 use crate::names::NameTable;
-use cdrc_plain::PlainHeap;
+use plain_audit::PlainHeap;
 use std::alloc::Global;
 use std::marker::Model;
 

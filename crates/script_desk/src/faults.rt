@@ -10,8 +10,7 @@ ghost use Rattle.script_desk.specs.Places.{admitted};
 use crate::names::NameTable;
 use crate::sizes::Sizes;
 use crate::wanted::Wanted;
-use line_words::Reason;
-use script_lines::{Command, Name, TextPlace};
+use script_lines::{Command, Name, Reason, TextPlace};
 
 /// Whether the place is one for weak references.
 fn is_weak_place(place: &TextPlace) -> bool

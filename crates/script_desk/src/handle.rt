@@ -1,6 +1,5 @@
 //! What a name of a script is bound to.
-use plain_state::SlotId;
-use plain_store::{Hand, SnapHand, WeakHand};
+use plain_settling::{Hand, SlotId, SnapHand, WeakHand};
 
 /// A strong reference, a weak one, or a snapshot.
 #[derive(Debug, Drop)]

@@ -2,7 +2,7 @@
 ghost use Rattle.std.specs.Prelude.{◌≡◌, ◌≤◌, ◌^◌};
 ghost use Rattle.script_desk.specs.Kinds.{script_payload, IsScriptPayload, script_weight, script_bounded};
 
-use plain_state::PayloadKind;
+use plain_settling::PayloadKind;
 
 /// Objects whose payload is a number of at most 2^32, which is what they weigh, and fifteen words of 0.
 #[derive(Clone, Copy, Debug, Drop)]

@@ -41,8 +41,6 @@ mod said;
 mod sizes;
 mod snapshots;
 mod telling;
-#[cfg(test)]
-mod tests;
 mod wanted;
 
 pub use desk::Desk;
@@ -53,6 +51,14 @@ pub use maker::Make;
 pub use makers::{makers_of, ranks};
 pub use names::NameTable;
 pub use opening::no_makers;
+pub use plain_audit::{Deleter, Heap, NoLaw, audit, check_walk, lawful};
+pub use plain_settling::{
+    EventPlace, Hand, Kind, MOST_CELLS, MOST_SLOTS, MOST_WEAK_CELLS, PayloadKind, SlotId,
+    SlotImage, SnapHand, WeakHand, ZERO, counted,
+};
 pub use resolving::place_of;
 pub use said::{Said, Shown};
+pub use script_lines::{
+    Command, CommandRefused, Name, OutOfMemory, Reason, ScriptLine, TextPlace, script_line,
+};
 pub use sizes::Sizes;

@@ -1,10 +1,10 @@
 //! What a name stands for, which the heap's seat has, and which place of the heap the words of a command name.
 ghost use Rattle.std.specs.Prelude.{◌≡◌, Some};
-ghost use Rattle.plain_state.specs.Places.{IsOpen};
-ghost use Rattle.plain_state.specs.State.{seat_at};
-ghost use Rattle.plain_state.specs.declared.slot.Kind.TheVariants.{Strong as StrongKind};
-ghost use Rattle.plain_store.specs.Calls.{MayGive};
-ghost use Rattle.plain_store.specs.Heaps.{Owns, OwnsWeakly};
+ghost use Rattle.plain_audit.specs.plain_state.Places.{IsOpen};
+ghost use Rattle.plain_audit.specs.plain_state.State.{seat_at};
+ghost use Rattle.plain_audit.specs.plain_state.declared.slot.Kind.TheVariants.{Strong as StrongKind};
+ghost use Rattle.plain_settling.specs.plain_store.Calls.{MayGive};
+ghost use Rattle.plain_settling.specs.plain_store.Heaps.{Owns, OwnsWeakly};
 ghost use Rattle.script_desk.specs.declared.handle.Handle.{Handle as Bound};
 ghost use Rattle.script_desk.specs.declared.handle.Handle.TheVariants.{Strong, Weak};
 ghost use Rattle.script_desk.specs.Desks.{bound, scope_of};
@@ -18,8 +18,7 @@ use crate::desk::Desk;
 use crate::place::HeapPlace;
 use crate::resolving::place_of;
 use crate::sizes::Sizes;
-use plain_state::SlotId;
-use plain_store::Hand;
+use plain_settling::{Hand, SlotId};
 use script_lines::{Name, TextPlace};
 
 impl Desk {

@@ -4,8 +4,8 @@ ghost use Rattle.std.specs.List.{All};
 ghost use Rattle.script_desk.specs.Desks.{maker_at};
 
 use crate::maker::Make;
-use out_of_memory::OutOfMemory;
-use plain_state::SlotId;
+use plain_settling::SlotId;
+use script_lines::OutOfMemory;
 use std::alloc::Global;
 
 /// The number of the make that made it, for each slot. Linear in the slots.

@@ -9,9 +9,8 @@ use crate::handle::Handle;
 use crate::kind::payload_of;
 use crate::maker::Make;
 use crate::said::Said;
-use out_of_memory::OutOfMemory;
-use plain_store::MakeRefused;
-use script_lines::Name;
+use plain_settling::MakeRefused;
+use script_lines::{Name, OutOfMemory};
 
 impl Desk {
     /// A new object of this weight, or none where no slot is free.

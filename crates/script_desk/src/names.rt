@@ -6,8 +6,7 @@ ghost use Rattle.script_desk.specs.Holding.{CountsMore};
 ghost use Rattle.script_desk.specs.Tables.{names_of};
 
 use crate::handle::Handle;
-use out_of_memory::Back;
-use script_lines::Name;
+use script_lines::{Back, Name};
 use std::alloc::{AllocFailed, Global};
 use std::collections::BTreeMap;
 use std::marker::Model;

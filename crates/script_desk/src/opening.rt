@@ -1,9 +1,9 @@
 //! A desk is opened, and closed.
 ghost use Rattle.std.specs.Prelude.{◌≡◌, ◌≤◌, [], All, IfOk, length};
-ghost use Rattle.plain_state.specs.Limits.{most_cells, most_slots, most_weak_cells};
-ghost use Rattle.plain_state.specs.declared.slot.SlotId.{SlotId};
-ghost use Rattle.plain_state.specs.State.{empty};
-ghost use Rattle.plain_store.specs.Settling.{IsSettled};
+ghost use Rattle.plain_audit.specs.plain_state.Limits.{most_cells, most_slots, most_weak_cells};
+ghost use Rattle.plain_audit.specs.plain_state.declared.slot.SlotId.{SlotId};
+ghost use Rattle.plain_audit.specs.plain_state.State.{empty};
+ghost use Rattle.plain_settling.specs.plain_store.Settling.{IsSettled};
 ghost use Rattle.script_desk.specs.Desks.{nobody, maker_of, without_handles};
 
 use crate::binding::give_up;
@@ -11,8 +11,8 @@ use crate::desk::Desk;
 use crate::kind::ScriptKind;
 use crate::maker::Make;
 use crate::names::NameTable;
-use cdrc_plain::PlainHeap;
-use out_of_memory::OutOfMemory;
+use plain_audit::PlainHeap;
+use script_lines::OutOfMemory;
 use std::alloc::Global;
 
 /// A maker for each slot, none of which was made.

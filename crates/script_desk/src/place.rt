@@ -1,9 +1,8 @@
 //! The places of the heap that a script names.
 use crate::kind::ScriptKind;
-use cdrc_plain::PlainHeap;
-use out_of_memory::OutOfMemory;
-use plain_state::{EventPlace, SlotId};
-use plain_store::{Hand, PlainPlace, PlainWeakPlace, WeakHand};
+use plain_audit::PlainHeap;
+use plain_settling::{EventPlace, Hand, PlainPlace, PlainWeakPlace, SlotId, WeakHand};
+use script_lines::OutOfMemory;
 
 /// A place for strong references, or one for weak ones.
 #[derive(Clone, Copy, Debug, Drop)]
@@ -14,9 +13,9 @@ pub(crate) enum HeapPlace {
 
 impl HeapPlace {
     ghost use Rattle.std.specs.Prelude.{◌≡◌, OnOk, OnErr};
-    ghost use Rattle.plain_state.specs.Places.{IsOpen, place_kind};
-    ghost use Rattle.plain_state.specs.State.{seat_at};
-    ghost use Rattle.plain_store.specs.Calls.{MayGive, Puts};
+    ghost use Rattle.plain_audit.specs.plain_state.Places.{IsOpen, place_kind};
+    ghost use Rattle.plain_audit.specs.plain_state.State.{seat_at};
+    ghost use Rattle.plain_settling.specs.plain_store.Calls.{MayGive, Puts};
     ghost use Rattle.script_desk.specs.Places.{event_place};
 
     /// The same place, as the calls of the heap take it.

@@ -1,7 +1,7 @@
 //! Places: put, cleared, loaded, replaced.
 ghost use Rattle.std.specs.Prelude.{◌≡◌, true, false, ◌∷◌, [], IfOk, None};
-ghost use Rattle.plain_state.specs.Places.{IsOpen};
-ghost use Rattle.plain_store.specs.Calls.{strong_place, weak_place};
+ghost use Rattle.plain_audit.specs.plain_state.Places.{IsOpen};
+ghost use Rattle.plain_settling.specs.plain_store.Calls.{strong_place, weak_place};
 ghost use Rattle.script_lines.specs.declared.command.Command.TheVariants as command;
 ghost use Rattle.script_desk.specs.Desks.{bound, scope_of};
 ghost use Rattle.script_desk.specs.Effects.{Acts, LoadsStrong, LoadsWeak};
@@ -14,9 +14,8 @@ use crate::desk::Desk;
 use crate::handle::Handle;
 use crate::place::HeapPlace;
 use crate::said::Said;
-use out_of_memory::OutOfMemory;
-use plain_store::{PlainPlace, PlainWeakPlace};
-use script_lines::{Name, TextPlace};
+use plain_settling::{PlainPlace, PlainWeakPlace};
+use script_lines::{Name, OutOfMemory, TextPlace};
 
 impl Desk {
     /// The place holds what the name was bound to.

@@ -1,6 +1,6 @@
 //! References: one more, one fewer.
 ghost use Rattle.std.specs.Prelude.{◌≡◌, IfOk, Some, None};
-ghost use Rattle.plain_state.specs.Steps.{Does};
+ghost use Rattle.plain_audit.specs.plain_state.Steps.{Does};
 ghost use Rattle.script_lines.specs.declared.command.Command.TheVariants as command;
 ghost use Rattle.script_desk.specs.declared.handle.Handle.{Handle as Bound};
 ghost use Rattle.script_desk.specs.Desks.{bound};
@@ -13,9 +13,8 @@ use crate::binding::{bind, give_up};
 use crate::desk::Desk;
 use crate::handle::Handle;
 use crate::said::Said;
-use out_of_memory::OutOfMemory;
-use plain_store::{Hand, WeakHand};
-use script_lines::Name;
+use plain_settling::{Hand, WeakHand};
+use script_lines::{Name, OutOfMemory};
 
 impl Desk {
     /// One more strong reference, by another name.

@@ -11,7 +11,7 @@ ghost use Rattle.script_desk.specs.Places.{AreMet, IsBoundTo};
 use crate::handle::Handle;
 use crate::names::NameTable;
 use crate::sizes::Sizes;
-use plain_state::{EventPlace, SlotId};
+use plain_settling::{EventPlace, SlotId};
 use script_lines::{Name, TextPlace};
 
 /// A number that is below this one.

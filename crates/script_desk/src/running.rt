@@ -1,6 +1,6 @@
 //! A command is run.
 ghost use Rattle.std.specs.Prelude.{IfOk, OnOk};
-ghost use Rattle.plain_store.specs.Settling.{IsSettled};
+ghost use Rattle.plain_settling.specs.plain_store.Settling.{IsSettled};
 ghost use Rattle.script_desk.specs.Desks.{Settles, scope_of};
 ghost use Rattle.script_desk.specs.Effects.{Acts, Runs};
 ghost use Rattle.script_desk.specs.Faults.{IsFault, IsFaultless};
@@ -8,9 +8,7 @@ ghost use Rattle.script_desk.specs.Faults.{IsFault, IsFaultless};
 use crate::desk::Desk;
 use crate::faults::fault;
 use crate::said::Said;
-use line_words::Reason;
-use out_of_memory::OutOfMemory;
-use script_lines::Command;
+use script_lines::{Command, OutOfMemory, Reason};
 
 impl Desk {
     /// Why the command is refused: the first of range, name and kind that is wrong with it, or None where nothing is.

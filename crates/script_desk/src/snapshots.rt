@@ -12,9 +12,8 @@ use crate::desk::Desk;
 use crate::handle::Handle;
 use crate::place::HeapPlace;
 use crate::said::Said;
-use out_of_memory::OutOfMemory;
-use plain_store::counted;
-use script_lines::{Name, TextPlace};
+use plain_settling::counted;
+use script_lines::{Name, OutOfMemory, TextPlace};
 
 impl Desk {
     /// A snapshot of what the strong place holds.

@@ -1,7 +1,7 @@
 //! What is told of the heap: a word, the counts of an object, an audit.
 ghost use Rattle.std.specs.Prelude.{◌<◌, IfOk};
-ghost use Rattle.plain_state.specs.Limits.{words_of_payload};
-ghost use Rattle.plain_store.specs.Settling.{IsSettled};
+ghost use Rattle.plain_audit.specs.plain_state.Limits.{words_of_payload};
+ghost use Rattle.plain_settling.specs.plain_store.Settling.{IsSettled};
 ghost use Rattle.script_lines.specs.declared.command.Command.TheVariants as command;
 ghost use Rattle.script_desk.specs.Audits.{AnswersAudit};
 ghost use Rattle.script_desk.specs.Effects.{Acts};
@@ -12,10 +12,8 @@ use crate::desk::Desk;
 use crate::kind::ScriptKind;
 use crate::makers::{makers_of, ranks};
 use crate::said::{Said, Shown};
-use deleter::Deleter;
-use out_of_memory::OutOfMemory;
-use plain_audit::audit_heap;
-use script_lines::Name;
+use plain_audit::{Deleter, audit_heap};
+use script_lines::{Name, OutOfMemory};
 
 impl Desk {
     /// A word of the payload.

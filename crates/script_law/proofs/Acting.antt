@@ -1,17 +1,17 @@
 -- What each command but `make` leaves of an orderly desk.
 use Rattle.std.proofs.Common.{◌≡◌, inr, ⊎_elim, ℕ, true, false, List, [], ◌∷◌, ◌++◌, refl, ap, subst, arith, Option, Some, None}
 use Rattle.std.specs.Prelude.{IsSome}
-use Rattle.plain_state.specs.declared.act.EventPlace.{EventPlace}
-use Rattle.plain_state.specs.declared.act.PlainAct.TheVariants as act
-use Rattle.plain_state.specs.declared.slot.Kind.TheVariants as kind
-use Rattle.plain_state.specs.declared.slot.SlotId.{SlotId}
-use Rattle.plain_state.specs.Places.{place_kind}
-use Rattle.plain_state.specs.Steps.{Does, Replaces}
-use Rattle.plain_store.specs.Calls.{Gains, Puts, WeaklyGains}
-use Rattle.script_lines.specs.declared.command.Command.{Command}
-use Rattle.script_lines.specs.declared.command.Command.TheVariants as command
-use Rattle.script_lines.specs.declared.command.TextPlace.{TextPlace}
-use Rattle.script_lines.specs.declared.command.TextPlace.TheVariants as text
+use Rattle.script_desk.specs.plain_state.declared.act.EventPlace.{EventPlace}
+use Rattle.script_desk.specs.plain_state.declared.act.PlainAct.TheVariants as act
+use Rattle.script_desk.specs.plain_state.declared.slot.Kind.TheVariants as kind
+use Rattle.script_desk.specs.plain_state.declared.slot.SlotId.{SlotId}
+use Rattle.script_desk.specs.plain_state.Places.{place_kind}
+use Rattle.script_desk.specs.plain_state.Steps.{Does, Replaces}
+use Rattle.script_desk.specs.plain_store.Calls.{Gains, Puts, WeaklyGains}
+use Rattle.script_desk.specs.script_lines.declared.command.Command.{Command}
+use Rattle.script_desk.specs.script_lines.declared.command.Command.TheVariants as command
+use Rattle.script_desk.specs.script_lines.declared.command.TextPlace.{TextPlace}
+use Rattle.script_desk.specs.script_lines.declared.command.TextPlace.TheVariants as text
 use Rattle.script_desk.specs.declared.handle.Handle.{Handle}
 use Rattle.script_desk.specs.declared.handle.Handle.TheVariants.{Strong, Weak, Snapshot}
 use Rattle.script_desk.specs.declared.said.Said.{Said}

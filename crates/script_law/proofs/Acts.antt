@@ -1,14 +1,14 @@
 -- A command but `make` and `audit`, at desks that are alike, answers the same and leaves desks that are alike.
 use Rattle.std.proofs.Common.{◌≡◌, ⊎_elim, ℕ, ◌+◌, List, length, refl, ap, sym, ◌∙◌, subst, subst₂, arith, Bool, true, false}
-use Rattle.plain_state.specs.declared.act.EventPlace.{EventPlace}
-use Rattle.plain_state.specs.declared.act.PlainAct.TheVariants as act
-use Rattle.plain_state.specs.declared.slot.Kind.TheVariants as kind
-use Rattle.plain_state.specs.declared.slot.SlotId.{SlotId}
-use Rattle.plain_state.specs.State.{Plain, seat_at, slot_at, with_seat}
-use Rattle.plain_state.specs.Steps.{Does}
-use Rattle.plain_store.specs.Calls.{Gains, WeaklyGains, ending, gained, weakly_gained}
-use Rattle.script_lines.specs.declared.command.TextPlace.{TextPlace}
-use Rattle.script_lines.specs.declared.command.TextPlace.TheVariants as text
+use Rattle.script_desk.specs.plain_state.declared.act.EventPlace.{EventPlace}
+use Rattle.script_desk.specs.plain_state.declared.act.PlainAct.TheVariants as act
+use Rattle.script_desk.specs.plain_state.declared.slot.Kind.TheVariants as kind
+use Rattle.script_desk.specs.plain_state.declared.slot.SlotId.{SlotId}
+use Rattle.script_desk.specs.plain_state.State.{Plain, seat_at, slot_at, with_seat}
+use Rattle.script_desk.specs.plain_state.Steps.{Does}
+use Rattle.script_desk.specs.plain_store.Calls.{Gains, WeaklyGains, ending, gained, weakly_gained}
+use Rattle.script_desk.specs.script_lines.declared.command.TextPlace.{TextPlace}
+use Rattle.script_desk.specs.script_lines.declared.command.TextPlace.TheVariants as text
 use Rattle.script_desk.specs.declared.handle.Handle.TheVariants.{Strong, Weak, Snapshot}
 use Rattle.script_desk.specs.declared.said.Said.{Said}
 use Rattle.script_desk.specs.Desks.{Desk}

@@ -2,21 +2,21 @@
 use Rattle.std.proofs.Common.{◌≡◌, ◌≢◌, inr, ⊎_elim, ℕ, ◌<◌, List, [], ◌∷◌, length, All, refl, ap, sym, ◌∙◌, subst, arith}
 use Rattle.std.specs.Prelude.{map}
 use Rattle.std.proofs.lemmas.List.Elements.{All-cons, All-head, All-nil, All-tail}
-use Rattle.plain_state.specs.declared.slot.PlainSlot.{PlainSlot}
-use Rattle.plain_state.specs.declared.slot.SlotId.{SlotId}
-use Rattle.plain_state.specs.declared.slot.Stage.{Stage}
-use Rattle.plain_state.specs.declared.slot.Stage.TheVariants.{Free, Blank, Live, Ended, Husk}
-use Rattle.plain_state.specs.State.{Plain, seat_at, slot_at, stage_at}
-use Rattle.plain_state.proofs.Kit.{none_or_some}
-use Rattle.plain_state.proofs.SeatRows.{is_there}
-use Rattle.heap_audit.specs.declared.finding.Audit.{Audit}
-use Rattle.heap_audit.specs.Heaps.{slot}
-use Rattle.heap_audit.specs.Paths.{Path}
-use Rattle.heap_audit.specs.Reached.{HowMany}
-use Rattle.heap_audit.specs.Walks.{GoesRound, IsFoundAmong, rank_of}
-use Rattle.heap_audit.proofs.Alone.{one_walk_among}
-use Rattle.plain_audit.specs.Audits.{IsAudit, deferred_entries, if_live, live_bytes, live_slots}
-use Rattle.plain_audit.specs.Reached.{HasField, IsUnreached}
+use Rattle.script_desk.specs.plain_state.declared.slot.PlainSlot.{PlainSlot}
+use Rattle.script_desk.specs.plain_state.declared.slot.SlotId.{SlotId}
+use Rattle.script_desk.specs.plain_state.declared.slot.Stage.{Stage}
+use Rattle.script_desk.specs.plain_state.declared.slot.Stage.TheVariants.{Free, Blank, Live, Ended, Husk}
+use Rattle.script_desk.specs.plain_state.State.{Plain, seat_at, slot_at, stage_at}
+use Rattle.script_desk.proofs.Below.plain_state.Kit.{none_or_some}
+use Rattle.script_desk.proofs.Below.plain_state.SeatRows.{is_there}
+use Rattle.script_desk.specs.heap_audit.declared.finding.Audit.{Audit}
+use Rattle.script_desk.specs.heap_audit.Heaps.{slot}
+use Rattle.script_desk.specs.heap_audit.Paths.{Path}
+use Rattle.script_desk.specs.heap_audit.Reached.{HowMany}
+use Rattle.script_desk.specs.heap_audit.Walks.{GoesRound, IsFoundAmong, rank_of}
+use Rattle.script_desk.proofs.Below.heap_audit.Alone.{one_walk_among}
+use Rattle.script_desk.specs.plain_audit.Audits.{IsAudit, deferred_entries, if_live, live_bytes, live_slots}
+use Rattle.script_desk.specs.plain_audit.Reached.{HasField, IsUnreached}
 use Rattle.script_desk.specs.declared.said.Said.{Said}
 use Rattle.script_desk.specs.declared.said.Shown.{Shown}
 use Rattle.script_desk.specs.Audits.{AnswersAudit, AreRanks, Shows}

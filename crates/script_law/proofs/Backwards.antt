@@ -1,14 +1,14 @@
 -- What is alike by some names is alike by those that lead back; and so alike states are tidied to alike states.
 use Rattle.std.proofs.Common.{◌≡◌, ℕ, List, [], ◌∷◌, length, refl, ap, ap₂, sym, ◌∙◌, subst, Option, Some, None}
 use Rattle.std.specs.Prelude.{map}
-use Rattle.plain_state.specs.declared.slot.PlainSlot.{PlainSlot}
-use Rattle.plain_state.specs.declared.slot.SlotId.{SlotId}
-use Rattle.plain_state.specs.declared.slot.Stage.TheVariants.{Live}
-use Rattle.plain_state.specs.Lists.{entry_times, times}
-use Rattle.plain_state.specs.Sound.{Sound}
-use Rattle.plain_state.specs.State.{Plain, seat_at, slot_at, stage_at}
-use Rattle.plain_store.specs.Settling.{IsSettled}
-use Rattle.plain_settling.specs.Settling.{TidiesTo}
+use Rattle.script_desk.specs.plain_state.declared.slot.PlainSlot.{PlainSlot}
+use Rattle.script_desk.specs.plain_state.declared.slot.SlotId.{SlotId}
+use Rattle.script_desk.specs.plain_state.declared.slot.Stage.TheVariants.{Live}
+use Rattle.script_desk.specs.plain_state.Lists.{entry_times, times}
+use Rattle.script_desk.specs.plain_state.Sound.{Sound}
+use Rattle.script_desk.specs.plain_state.State.{Plain, seat_at, slot_at, stage_at}
+use Rattle.script_desk.specs.plain_store.Settling.{IsSettled}
+use Rattle.script_desk.specs.plain_settling.Settling.{TidiesTo}
 use Rattle.script_law.specs.Renamings.{IsRenaming, renamed}
 use Rattle.script_law.specs.States.{SlotsAlike, StatesAlike}
 use Rattle.script_law.proofs.Outliving.{Outlived, outlived_first, outlived_step}

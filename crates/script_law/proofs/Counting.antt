@@ -3,9 +3,9 @@ use Rattle.std.proofs.Common.{◌≡◌, ◌≢◌, ◌⊎◌, inl, inr, ⊎_eli
 use Rattle.std.specs.Prelude.{◌==◌, if◌then◌else◌}
 use Rattle.std.proofs.lemmas.Bool.{cases_eq}
 use Rattle.std.proofs.lemmas.Bool.Decides.{nat_tests}
-use Rattle.plain_state.specs.declared.slot.SlotId.{SlotId}
-use Rattle.heap_audit.specs.Heaps.{slot}
-use Rattle.heap_audit.specs.Reached.{HowMany}
+use Rattle.script_desk.specs.plain_state.declared.slot.SlotId.{SlotId}
+use Rattle.script_desk.specs.heap_audit.Heaps.{slot}
+use Rattle.script_desk.specs.heap_audit.Reached.{HowMany}
 use Rattle.script_law.specs.Renamings.{IsRenaming}
 use Rattle.script_law.proofs.Sums.{total, total_more, total_renamed, total_same, total_zero}
 

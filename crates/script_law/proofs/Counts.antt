@@ -3,11 +3,11 @@ use Rattle.std.proofs.Common.{◌≡◌, ◌≢◌, ⊎_elim, ◌+◌, List, [],
 use Rattle.std.specs.Prelude.{map, if◌then◌else◌}
 use Rattle.std.proofs.lemmas.List.{length-append}
 use Rattle.std.proofs.lemmas.List.Sums.{sum_by-cons}
-use Rattle.plain_state.specs.declared.slot.Kind.{Kind}
-use Rattle.plain_state.specs.declared.slot.SlotId.{SlotId}
-use Rattle.plain_state.specs.Lists.{Entry, Loses, cell_times, entry_times, holds, times}
-use Rattle.plain_state.specs.References.{held_in}
-use Rattle.plain_state.proofs.Kit.{cases_slot, cells_none, entries_in, entry_cons, entry_in, entry_loses, entry_none, entry_self, held_none, held_other, held_same, of_kind, slot_is, times_loses, times_push}
+use Rattle.script_desk.specs.plain_state.declared.slot.Kind.{Kind}
+use Rattle.script_desk.specs.plain_state.declared.slot.SlotId.{SlotId}
+use Rattle.script_desk.specs.plain_state.Lists.{Entry, Loses, cell_times, entry_times, holds, times}
+use Rattle.script_desk.specs.plain_state.References.{held_in}
+use Rattle.script_desk.proofs.Below.plain_state.Kit.{cases_slot, cells_none, entries_in, entry_cons, entry_in, entry_loses, entry_none, entry_self, held_none, held_other, held_same, of_kind, slot_is, times_loses, times_push}
 use Rattle.script_law.specs.Renamings.{renamed}
 
 pub cells_cons : (s : SlotId) (c : Option SlotId) (cs : List (Option SlotId))

@@ -1,10 +1,10 @@
 -- Desks that are alike: what names are bound to, and what is alike after a step.
 use Rattle.std.proofs.Common.{◌≡◌, ◌≢◌, ⊎_elim, ℕ, List, length, refl, ap, sym, ◌∙◌, subst, subst₂, arith, Option, Some, None}
 use Rattle.std.proofs.lemmas.List.{length-map}
-use Rattle.plain_state.specs.declared.slot.Kind.TheVariants.{Disposal}
-use Rattle.plain_state.specs.declared.slot.SlotId.{SlotId}
-use Rattle.plain_state.specs.declared.slot.Stage.TheVariants.{Free}
-use Rattle.plain_state.specs.State.{Plain, seat_at, stage_at}
+use Rattle.script_desk.specs.plain_state.declared.slot.Kind.TheVariants.{Disposal}
+use Rattle.script_desk.specs.plain_state.declared.slot.SlotId.{SlotId}
+use Rattle.script_desk.specs.plain_state.declared.slot.Stage.TheVariants.{Free}
+use Rattle.script_desk.specs.plain_state.State.{Plain, seat_at, stage_at}
 use Rattle.script_desk.specs.declared.handle.Handle.{Handle}
 use Rattle.script_desk.specs.declared.handle.Handle.TheVariants.{Strong, Weak, Snapshot}
 use Rattle.script_desk.specs.Desks.{Binds, Desk, Maker, Names, SameMakers, Settles, bound, maker_at, maker_of, scope_of}

@@ -1,9 +1,9 @@
 -- What is alike to what is alike is alike.
 use Rattle.std.proofs.Common.{◌≡◌, ℕ, List, [], ◌∷◌, length, refl, ap, ap₂, sym, ◌∙◌, subst, Option, Some, None}
 use Rattle.std.specs.Prelude.{map}
-use Rattle.plain_state.specs.declared.slot.PlainSlot.{PlainSlot}
-use Rattle.plain_state.specs.declared.slot.SlotId.{SlotId}
-use Rattle.plain_state.specs.State.{Plain, slot_at}
+use Rattle.script_desk.specs.plain_state.declared.slot.PlainSlot.{PlainSlot}
+use Rattle.script_desk.specs.plain_state.declared.slot.SlotId.{SlotId}
+use Rattle.script_desk.specs.plain_state.State.{Plain, slot_at}
 use Rattle.script_desk.specs.declared.handle.Handle.{Handle}
 use Rattle.script_desk.specs.declared.handle.Handle.TheVariants.{Strong, Weak, Snapshot}
 use Rattle.script_desk.specs.Desks.{Desk, bound}

@@ -1,20 +1,20 @@
 -- What tidying leaves of a state, from its beginning to any of its steps: slots, lists, and how much waits.
 use Rattle.std.proofs.Common.{◌≡◌, ◌≢◌, ◌⊎◌, inl, inr, ⊎_elim, ◌+◌, ◌<◌, ◌≤◌, List, length, get_or-set_same, length-set, refl, ap, sym, ◌∙◌, subst, arith, Option}
-use Rattle.plain_state.specs.declared.act.EventPlace.{EventPlace}
-use Rattle.plain_state.specs.declared.slot.Kind.{Kind}
-use Rattle.plain_state.specs.declared.slot.Kind.TheVariants.{Strong, Weak, Disposal}
-use Rattle.plain_state.specs.declared.slot.PlainSlot.{PlainSlot}
-use Rattle.plain_state.specs.declared.slot.SlotId.{SlotId}
-use Rattle.plain_state.specs.declared.slot.Stage.TheVariants.{Free, Blank, Live}
-use Rattle.plain_state.specs.Lists.{Entry, Loses, entry_times}
-use Rattle.plain_state.specs.Places.{place_kind}
-use Rattle.plain_state.specs.References.{held_in, places, strong_fields, weak_fields}
-use Rattle.plain_state.specs.Sound.{Sound}
-use Rattle.plain_state.specs.State.{Plain, PlainSeat, new_seat, seat_at, slot_at, with_seat, with_slot}
-use Rattle.plain_state.specs.Steps.{joined}
-use Rattle.plain_state.proofs.Changes.{slot_change, slot_other, slot_same}
-use Rattle.plain_state.proofs.Kit.{cases_slot, entry_in, entry_is, entry_loses, entry_self, none_or_some, of_kind}
-use Rattle.plain_state.proofs.PlaceRows.{joined_times}
+use Rattle.script_desk.specs.plain_state.declared.act.EventPlace.{EventPlace}
+use Rattle.script_desk.specs.plain_state.declared.slot.Kind.{Kind}
+use Rattle.script_desk.specs.plain_state.declared.slot.Kind.TheVariants.{Strong, Weak, Disposal}
+use Rattle.script_desk.specs.plain_state.declared.slot.PlainSlot.{PlainSlot}
+use Rattle.script_desk.specs.plain_state.declared.slot.SlotId.{SlotId}
+use Rattle.script_desk.specs.plain_state.declared.slot.Stage.TheVariants.{Free, Blank, Live}
+use Rattle.script_desk.specs.plain_state.Lists.{Entry, Loses, entry_times}
+use Rattle.script_desk.specs.plain_state.Places.{place_kind}
+use Rattle.script_desk.specs.plain_state.References.{held_in, places, strong_fields, weak_fields}
+use Rattle.script_desk.specs.plain_state.Sound.{Sound}
+use Rattle.script_desk.specs.plain_state.State.{Plain, PlainSeat, new_seat, seat_at, slot_at, with_seat, with_slot}
+use Rattle.script_desk.specs.plain_state.Steps.{joined}
+use Rattle.script_desk.proofs.Below.plain_state.Changes.{slot_change, slot_other, slot_same}
+use Rattle.script_desk.proofs.Below.plain_state.Kit.{cases_slot, entry_in, entry_is, entry_loses, entry_self, none_or_some, of_kind}
+use Rattle.script_desk.proofs.Below.plain_state.PlaceRows.{joined_times}
 
 -- what becomes of a slot: it keeps its payload; what is alive is as it was; what isn't as far as it was was made once,
 -- and isn't alive any more

@@ -3,13 +3,13 @@ use Rattle.std.proofs.Common.{◌≡◌, inl, inr, ⊎_elim, ℕ, Bool, false, L
 use Rattle.std.specs.Prelude.{All, IsSome, IsSomeAnd}
 use Rattle.std.specs.List.{Any}
 use Rattle.std.proofs.lemmas.List.Elements.{All-append, All-cons, All-get_or, All-nil}
-use Rattle.line_words.specs.declared.reason.Reason.{Reason}
-use Rattle.line_words.specs.declared.reason.Reason.TheVariants as reason
-use Rattle.plain_state.specs.declared.slot.SlotId.{SlotId}
-use Rattle.script_lines.specs.declared.command.Command.{Command}
-use Rattle.script_lines.specs.declared.command.Command.TheVariants as command
-use Rattle.script_lines.specs.declared.command.TextPlace.{TextPlace}
-use Rattle.script_lines.specs.declared.command.TextPlace.TheVariants as text
+use Rattle.script_desk.specs.line_words.declared.reason.Reason.{Reason}
+use Rattle.script_desk.specs.line_words.declared.reason.Reason.TheVariants as reason
+use Rattle.script_desk.specs.plain_state.declared.slot.SlotId.{SlotId}
+use Rattle.script_desk.specs.script_lines.declared.command.Command.{Command}
+use Rattle.script_desk.specs.script_lines.declared.command.Command.TheVariants as command
+use Rattle.script_desk.specs.script_lines.declared.command.TextPlace.{TextPlace}
+use Rattle.script_desk.specs.script_lines.declared.command.TextPlace.TheVariants as text
 use Rattle.script_desk.specs.declared.handle.Handle.{Handle}
 use Rattle.script_desk.specs.declared.handle.Handle.TheVariants.{Strong, Weak, Snapshot}
 use Rattle.script_desk.specs.declared.sizes.Sizes.{Sizes}

@@ -1,15 +1,15 @@
 -- Desks of which no command was run, and equal desks.
 use Rattle.std.proofs.Common.{◌≡◌, ℕ, List, [], ◌∷◌, length, refl, ap, ap₂, sym, ◌∙◌, subst, arith, Option, Some, None}
 use Rattle.std.specs.Prelude.{map}
-use Rattle.plain_state.specs.declared.slot.PlainSlot.{PlainSlot}
-use Rattle.plain_state.specs.declared.slot.SlotId.{SlotId}
-use Rattle.plain_state.specs.declared.slot.Stage.TheVariants.{Free}
-use Rattle.plain_state.specs.declared.slot.Kind.TheVariants as kind
-use Rattle.plain_state.specs.Lists.{entry_times}
-use Rattle.plain_state.specs.Sound.{Sound}
-use Rattle.plain_state.specs.State.{Plain, empty, seat_at, slot_at, stage_at}
-use Rattle.plain_state.proofs.Kit.{entry_none, times_none}
-use Rattle.plain_state.proofs.Start.{every_slot_new, empty_sound}
+use Rattle.script_desk.specs.plain_state.declared.slot.PlainSlot.{PlainSlot}
+use Rattle.script_desk.specs.plain_state.declared.slot.SlotId.{SlotId}
+use Rattle.script_desk.specs.plain_state.declared.slot.Stage.TheVariants.{Free}
+use Rattle.script_desk.specs.plain_state.declared.slot.Kind.TheVariants as kind
+use Rattle.script_desk.specs.plain_state.Lists.{entry_times}
+use Rattle.script_desk.specs.plain_state.Sound.{Sound}
+use Rattle.script_desk.specs.plain_state.State.{Plain, empty, seat_at, slot_at, stage_at}
+use Rattle.script_desk.proofs.Below.plain_state.Kit.{entry_none, times_none}
+use Rattle.script_desk.proofs.Below.plain_state.Start.{every_slot_new, empty_sound}
 use Rattle.script_desk.specs.declared.handle.Handle.{Handle}
 use Rattle.script_desk.specs.declared.handle.Handle.TheVariants.{Strong, Weak, Snapshot}
 use Rattle.script_desk.specs.Desks.{Desk, Names, bound, maker_of}

@@ -1,24 +1,24 @@
 -- What the steps of commands leave of the heap: nothing is taken, and the seat has a handle fewer by what it puts.
 use Rattle.std.proofs.Common.{◌≡◌, ⊎_elim, ℕ, ◌<◌, Bool, true, false, [], ◌∷◌, length, refl, ap, arith, Option, Some}
-use Rattle.plain_state.specs.declared.act.EventPlace.{EventPlace}
-use Rattle.plain_state.specs.declared.act.EventPlace.TheVariants.{Cell, Field, WeakCell, WeakField}
-use Rattle.plain_state.specs.declared.act.PlainAct.TheVariants as act
-use Rattle.plain_state.specs.declared.slot.Kind.TheVariants as kind
-use Rattle.plain_state.specs.declared.slot.SlotId.{SlotId}
-use Rattle.plain_state.specs.Places.{content, place_kind}
-use Rattle.plain_state.specs.Sound.{Sound}
-use Rattle.plain_state.specs.Lists.{entry_times}
-use Rattle.plain_state.specs.References.{held_in}
-use Rattle.plain_state.specs.State.{Plain, PlainSeat, seat_at}
-use Rattle.plain_state.specs.Steps.{Does, GivesUp, Replaces, joined}
-use Rattle.plain_state.proofs.EveryStep.{step_sound}
-use Rattle.plain_state.proofs.Kit.{of_kind}
-use Rattle.plain_state.proofs.PlaceRows.{gave, joined_times}
-use Rattle.plain_state.proofs.SeatRows.{open_there}
-use Rattle.plain_store.specs.Calls.{Loads, Puts, Tries, WeaklyLoads}
-use Rattle.plain_settling.specs.Snapshots.{Takes}
-use Rattle.script_lines.specs.declared.command.TextPlace.{TextPlace}
-use Rattle.script_lines.specs.declared.command.TextPlace.TheVariants as text
+use Rattle.script_desk.specs.plain_state.declared.act.EventPlace.{EventPlace}
+use Rattle.script_desk.specs.plain_state.declared.act.EventPlace.TheVariants.{Cell, Field, WeakCell, WeakField}
+use Rattle.script_desk.specs.plain_state.declared.act.PlainAct.TheVariants as act
+use Rattle.script_desk.specs.plain_state.declared.slot.Kind.TheVariants as kind
+use Rattle.script_desk.specs.plain_state.declared.slot.SlotId.{SlotId}
+use Rattle.script_desk.specs.plain_state.Places.{content, place_kind}
+use Rattle.script_desk.specs.plain_state.Sound.{Sound}
+use Rattle.script_desk.specs.plain_state.Lists.{entry_times}
+use Rattle.script_desk.specs.plain_state.References.{held_in}
+use Rattle.script_desk.specs.plain_state.State.{Plain, PlainSeat, seat_at}
+use Rattle.script_desk.specs.plain_state.Steps.{Does, GivesUp, Replaces, joined}
+use Rattle.script_desk.proofs.Below.plain_state.EveryStep.{step_sound}
+use Rattle.script_desk.proofs.Below.plain_state.Kit.{of_kind}
+use Rattle.script_desk.proofs.Below.plain_state.PlaceRows.{gave, joined_times}
+use Rattle.script_desk.proofs.Below.plain_state.SeatRows.{open_there}
+use Rattle.script_desk.specs.plain_store.Calls.{Loads, Puts, Tries, WeaklyLoads}
+use Rattle.script_desk.specs.plain_settling.Snapshots.{Takes}
+use Rattle.script_desk.specs.script_lines.declared.command.TextPlace.{TextPlace}
+use Rattle.script_desk.specs.script_lines.declared.command.TextPlace.TheVariants as text
 use Rattle.script_desk.specs.declared.handle.Handle.{Handle}
 use Rattle.script_desk.specs.declared.handle.Handle.TheVariants.{Strong, Weak, Snapshot}
 use Rattle.script_desk.specs.Desks.{Names}

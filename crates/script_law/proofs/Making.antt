@@ -2,17 +2,17 @@
 use Rattle.std.proofs.Common.{◌≡◌, ◌≢◌, ⊎_elim, ℕ, ◌+◌, ◌<◌, List, [], ◌∷◌, ◌++◌, length, get_or-set_same, length-set, refl, ap, sym, ◌∙◌, subst, subst₂, arith, Some, None}
 use Rattle.std.specs.Prelude.{IsSome}
 use Rattle.std.proofs.lemmas.List.Elements.{All-get_or}
-use Rattle.plain_state.specs.declared.act.PlainAct.TheVariants as act
-use Rattle.plain_state.specs.declared.slot.PlainSlot.{PlainSlot}
-use Rattle.plain_state.specs.declared.slot.SlotId.{SlotId}
-use Rattle.plain_state.specs.declared.slot.Stage.TheVariants.{Free}
-use Rattle.plain_state.specs.Lists.{entry_times}
-use Rattle.plain_state.specs.declared.slot.Kind.TheVariants.{Disposal}
-use Rattle.plain_state.specs.State.{Plain, PlainSeat, new_seat, new_slot, seat_at, slot_at, stage_at, with_seat}
-use Rattle.plain_state.proofs.Changes.{slot_other}
-use Rattle.plain_state.proofs.Kit.{cases_slot, slot_is}
-use Rattle.plain_store.specs.Heaps.{Makes, NoneFree, fills, made_slot}
-use Rattle.plain_store.proofs.Making.{IsMake, made, make_is}
+use Rattle.script_desk.specs.plain_state.declared.act.PlainAct.TheVariants as act
+use Rattle.script_desk.specs.plain_state.declared.slot.PlainSlot.{PlainSlot}
+use Rattle.script_desk.specs.plain_state.declared.slot.SlotId.{SlotId}
+use Rattle.script_desk.specs.plain_state.declared.slot.Stage.TheVariants.{Free}
+use Rattle.script_desk.specs.plain_state.Lists.{entry_times}
+use Rattle.script_desk.specs.plain_state.declared.slot.Kind.TheVariants.{Disposal}
+use Rattle.script_desk.specs.plain_state.State.{Plain, PlainSeat, new_seat, new_slot, seat_at, slot_at, stage_at, with_seat}
+use Rattle.script_desk.proofs.Below.plain_state.Changes.{slot_other}
+use Rattle.script_desk.proofs.Below.plain_state.Kit.{cases_slot, slot_is}
+use Rattle.script_desk.specs.plain_store.Heaps.{Makes, NoneFree, fills, made_slot}
+use Rattle.script_desk.proofs.Below.plain_store.Making.{IsMake, made, make_is}
 use Rattle.script_desk.specs.declared.handle.Handle.TheVariants.{Strong}
 use Rattle.script_desk.specs.declared.said.Said.{Said}
 use Rattle.script_desk.specs.Desks.{Binds, Desk, MadeBy, Maker, bound, maker_of}

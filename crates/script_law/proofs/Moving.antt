@@ -1,18 +1,18 @@
 -- The steps of commands take no slot, and leave one seat.
 use Rattle.std.proofs.Common.{◌≡◌, ◌≢◌, ◌<◌, List, [], ◌∷◌, length, length-set, refl, ap, sym, ◌∙◌, subst, arith, Option}
-use Rattle.plain_state.specs.declared.act.EventPlace.{EventPlace}
-use Rattle.plain_state.specs.declared.act.EventPlace.TheVariants.{Cell, Field, WeakCell, WeakField}
-use Rattle.plain_state.specs.declared.act.PlainAct.{PlainAct}
-use Rattle.plain_state.specs.declared.slot.Kind.TheVariants.{Disposal}
-use Rattle.plain_state.specs.declared.slot.SlotId.{SlotId}
-use Rattle.plain_state.specs.declared.slot.Stage.TheVariants.{Free}
-use Rattle.plain_state.specs.Places.{with_content}
-use Rattle.plain_state.specs.Runs.{Runs}
-use Rattle.plain_state.specs.Sound.{Sound}
-use Rattle.plain_state.specs.Lists.{entry_times}
-use Rattle.plain_state.specs.State.{Plain, PlainSeat, seat_at, stage_at, with_seat}
-use Rattle.plain_state.proofs.Changes.{IsThere, content_object}
-use Rattle.plain_state.proofs.EveryStep.{step_sound}
+use Rattle.script_desk.specs.plain_state.declared.act.EventPlace.{EventPlace}
+use Rattle.script_desk.specs.plain_state.declared.act.EventPlace.TheVariants.{Cell, Field, WeakCell, WeakField}
+use Rattle.script_desk.specs.plain_state.declared.act.PlainAct.{PlainAct}
+use Rattle.script_desk.specs.plain_state.declared.slot.Kind.TheVariants.{Disposal}
+use Rattle.script_desk.specs.plain_state.declared.slot.SlotId.{SlotId}
+use Rattle.script_desk.specs.plain_state.declared.slot.Stage.TheVariants.{Free}
+use Rattle.script_desk.specs.plain_state.Places.{with_content}
+use Rattle.script_desk.specs.plain_state.Runs.{Runs}
+use Rattle.script_desk.specs.plain_state.Sound.{Sound}
+use Rattle.script_desk.specs.plain_state.Lists.{entry_times}
+use Rattle.script_desk.specs.plain_state.State.{Plain, PlainSeat, seat_at, stage_at, with_seat}
+use Rattle.script_desk.proofs.Below.plain_state.Changes.{IsThere, content_object}
+use Rattle.script_desk.proofs.Below.plain_state.EveryStep.{step_sound}
 use Rattle.script_desk.proofs.Grows.{placed, placed_same_sizes, written}
 use Rattle.script_law.specs.Orderly.{IsQuiet}
 use Rattle.script_law.proofs.Orderly.{Moves}

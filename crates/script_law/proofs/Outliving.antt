@@ -1,28 +1,28 @@
 -- What lives when all is tidied lives at every step of every tidying.
 use Rattle.std.proofs.Common.{◌≡◌, ◌≢◌, ◌⊎◌, ⊎_elim, ℕ, suc, ◌<◌, List, [], ◌∷◌, ◌++◌, length, get_or, refl, ap, sym, ◌∙◌, subst, arith, true}
 use Rattle.std.proofs.lemmas.List.Sums.{sum_by-cons}
-use Rattle.plain_state.specs.declared.act.PlainAct.{PlainAct}
-use Rattle.plain_state.specs.declared.act.PlainAct.TheVariants as act
-use Rattle.plain_state.specs.declared.slot.Kind.TheVariants.{Strong}
-use Rattle.plain_state.specs.declared.slot.PlainSlot.{PlainSlot}
-use Rattle.plain_state.specs.declared.slot.SlotId.{SlotId}
-use Rattle.plain_state.specs.declared.slot.Stage.{Stage}
-use Rattle.plain_state.specs.declared.slot.Stage.TheVariants.{Free, Blank, Live, Ended, Husk}
-use Rattle.plain_state.specs.Lawful.{IsVacant}
-use Rattle.plain_state.specs.Lists.{cell_times, entry_times, times}
-use Rattle.plain_state.specs.Places.{content, place_kind}
-use Rattle.plain_state.specs.References.{held_in, over_slots, snapshot_times, strong_fields, strong_refs}
-use Rattle.plain_state.specs.Sound.{Sound}
-use Rattle.plain_state.specs.State.{Plain, PlainSeat, new_slot, with_slot, seat_at, slot_at, stage_at, with_seat}
-use Rattle.plain_state.specs.Steps.{Does, joined}
-use Rattle.plain_state.proofs.Changes.{slot_other}
-use Rattle.plain_state.proofs.Kit.{cases_slot, held_none, none_by, none_or_some, slots_at, times_lost, times_none}
-use Rattle.plain_state.proofs.SeatRows.{is_there}
-use Rattle.plain_state.proofs.SlotRows.{dying_ended}
-use Rattle.plain_store.specs.Settling.{IsSettled}
-use Rattle.plain_settling.specs.Settling.{Tidies}
-use Rattle.plain_audit.proofs.Numbers.{seat_alone}
-use Rattle.heap_audit.specs.Heaps.{slot}
+use Rattle.script_desk.specs.plain_state.declared.act.PlainAct.{PlainAct}
+use Rattle.script_desk.specs.plain_state.declared.act.PlainAct.TheVariants as act
+use Rattle.script_desk.specs.plain_state.declared.slot.Kind.TheVariants.{Strong}
+use Rattle.script_desk.specs.plain_state.declared.slot.PlainSlot.{PlainSlot}
+use Rattle.script_desk.specs.plain_state.declared.slot.SlotId.{SlotId}
+use Rattle.script_desk.specs.plain_state.declared.slot.Stage.{Stage}
+use Rattle.script_desk.specs.plain_state.declared.slot.Stage.TheVariants.{Free, Blank, Live, Ended, Husk}
+use Rattle.script_desk.specs.plain_state.Lawful.{IsVacant}
+use Rattle.script_desk.specs.plain_state.Lists.{cell_times, entry_times, times}
+use Rattle.script_desk.specs.plain_state.Places.{content, place_kind}
+use Rattle.script_desk.specs.plain_state.References.{held_in, over_slots, snapshot_times, strong_fields, strong_refs}
+use Rattle.script_desk.specs.plain_state.Sound.{Sound}
+use Rattle.script_desk.specs.plain_state.State.{Plain, PlainSeat, new_slot, with_slot, seat_at, slot_at, stage_at, with_seat}
+use Rattle.script_desk.specs.plain_state.Steps.{Does, joined}
+use Rattle.script_desk.proofs.Below.plain_state.Changes.{slot_other}
+use Rattle.script_desk.proofs.Below.plain_state.Kit.{cases_slot, held_none, none_by, none_or_some, slots_at, times_lost, times_none}
+use Rattle.script_desk.proofs.Below.plain_state.SeatRows.{is_there}
+use Rattle.script_desk.proofs.Below.plain_state.SlotRows.{dying_ended}
+use Rattle.script_desk.specs.plain_store.Settling.{IsSettled}
+use Rattle.script_desk.specs.plain_settling.Settling.{Tidies}
+use Rattle.script_desk.proofs.Below.plain_audit.Numbers.{seat_alone}
+use Rattle.script_desk.specs.heap_audit.Heaps.{slot}
 use Rattle.script_law.specs.Renamings.{IsRenaming}
 use Rattle.script_law.specs.States.{StatesAlike}
 use Rattle.script_law.proofs.Counts.{cells_renamed}

@@ -1,14 +1,14 @@
 -- The places and the slots that the words of a command name, at desks that are alike.
 use Rattle.std.proofs.Common.{◌≡◌, ◌≢◌, ℕ, ◌<◌, List, length, refl, ap, sym, ◌∙◌, arith, true, false, Option, Some, None}
-use Rattle.plain_state.specs.declared.act.EventPlace.{EventPlace}
-use Rattle.plain_state.specs.declared.act.EventPlace.TheVariants.{Field, WeakField}
-use Rattle.plain_state.specs.declared.slot.SlotId.{SlotId}
-use Rattle.plain_state.specs.declared.slot.Stage.TheVariants.{Free}
-use Rattle.plain_state.specs.Places.{content}
-use Rattle.plain_state.specs.State.{stage_at}
-use Rattle.plain_state.proofs.SeatRows.{held_there}
-use Rattle.script_lines.specs.declared.command.TextPlace.{TextPlace}
-use Rattle.script_lines.specs.declared.command.TextPlace.TheVariants as text
+use Rattle.script_desk.specs.plain_state.declared.act.EventPlace.{EventPlace}
+use Rattle.script_desk.specs.plain_state.declared.act.EventPlace.TheVariants.{Field, WeakField}
+use Rattle.script_desk.specs.plain_state.declared.slot.SlotId.{SlotId}
+use Rattle.script_desk.specs.plain_state.declared.slot.Stage.TheVariants.{Free}
+use Rattle.script_desk.specs.plain_state.Places.{content}
+use Rattle.script_desk.specs.plain_state.State.{stage_at}
+use Rattle.script_desk.proofs.Below.plain_state.SeatRows.{held_there}
+use Rattle.script_desk.specs.script_lines.declared.command.TextPlace.{TextPlace}
+use Rattle.script_desk.specs.script_lines.declared.command.TextPlace.TheVariants as text
 use Rattle.script_desk.specs.declared.handle.Handle.{Handle}
 use Rattle.script_desk.specs.declared.handle.Handle.TheVariants.{Strong, Weak, Snapshot}
 use Rattle.script_desk.specs.Desks.{Desk, bound}

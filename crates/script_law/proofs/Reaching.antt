@@ -1,12 +1,12 @@
 -- What is reached is reached by the new names, and what isn't isn't.
 use Rattle.std.proofs.Common.{◌≡◌, inl, inr, ⊎_elim, ℕ, List, [], ◌∷◌, length, refl, ap, sym, ◌∙◌, subst, arith}
 use Rattle.std.specs.Prelude.{map}
-use Rattle.plain_state.specs.declared.slot.Kind.TheVariants.{Strong}
-use Rattle.plain_state.specs.declared.slot.SlotId.{SlotId}
-use Rattle.plain_state.specs.Lists.{cell_times, times}
-use Rattle.plain_state.specs.State.{Plain, slot_at}
-use Rattle.heap_audit.specs.Paths.{LeadsTo, Path}
-use Rattle.plain_audit.specs.Reached.{HasField, IsReached, IsRoot, IsUnreached}
+use Rattle.script_desk.specs.plain_state.declared.slot.Kind.TheVariants.{Strong}
+use Rattle.script_desk.specs.plain_state.declared.slot.SlotId.{SlotId}
+use Rattle.script_desk.specs.plain_state.Lists.{cell_times, times}
+use Rattle.script_desk.specs.plain_state.State.{Plain, slot_at}
+use Rattle.script_desk.specs.heap_audit.Paths.{LeadsTo, Path}
+use Rattle.script_desk.specs.plain_audit.Reached.{HasField, IsReached, IsRoot, IsUnreached}
 use Rattle.script_law.specs.Renamings.{IsRenaming}
 use Rattle.script_law.specs.States.{StatesAlike}
 use Rattle.script_law.proofs.Backwards.{alike_back, renaming_back}

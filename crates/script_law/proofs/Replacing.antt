@@ -1,15 +1,15 @@
 -- A place that is replaced, and a snapshot of one, at desks that are alike.
 use Rattle.std.proofs.Common.{◌≡◌, ⊎_elim, ℕ, List, length, refl, ap, sym, ◌∙◌, subst₂, arith, Bool, true, false, Option, Some, None}
-use Rattle.plain_state.specs.declared.act.EventPlace.{EventPlace}
-use Rattle.plain_state.specs.declared.slot.Kind.{Kind}
-use Rattle.plain_state.specs.declared.slot.SlotId.{SlotId}
-use Rattle.plain_state.specs.Lists.{Loses}
-use Rattle.plain_state.specs.Places.{IsOpen, content, place_kind}
-use Rattle.plain_state.specs.State.{seat_at}
-use Rattle.plain_state.specs.Steps.{Replaces}
-use Rattle.plain_state.proofs.SeatRows.{open_there}
-use Rattle.plain_store.specs.Calls.{Puts, gained}
-use Rattle.plain_settling.specs.Snapshots.{Takes}
+use Rattle.script_desk.specs.plain_state.declared.act.EventPlace.{EventPlace}
+use Rattle.script_desk.specs.plain_state.declared.slot.Kind.{Kind}
+use Rattle.script_desk.specs.plain_state.declared.slot.SlotId.{SlotId}
+use Rattle.script_desk.specs.plain_state.Lists.{Loses}
+use Rattle.script_desk.specs.plain_state.Places.{IsOpen, content, place_kind}
+use Rattle.script_desk.specs.plain_state.State.{seat_at}
+use Rattle.script_desk.specs.plain_state.Steps.{Replaces}
+use Rattle.script_desk.proofs.Below.plain_state.SeatRows.{open_there}
+use Rattle.script_desk.specs.plain_store.Calls.{Puts, gained}
+use Rattle.script_desk.specs.plain_settling.Snapshots.{Takes}
 use Rattle.script_desk.specs.declared.handle.Handle.TheVariants.{Snapshot}
 use Rattle.script_desk.specs.declared.said.Said.{Said}
 use Rattle.script_desk.specs.Desks.{Desk}

@@ -1,11 +1,11 @@
 -- A command at desks that are alike.
 use Rattle.std.proofs.Common.{◌≡◌, inl, inr, ⊎_elim, ℕ, ◌<◌, List, length, length-set, refl, ap, sym, ◌∙◌, subst, arith, Option, None}
-use Rattle.line_words.specs.declared.reason.Reason.{Reason}
-use Rattle.plain_state.specs.declared.slot.SlotId.{SlotId}
-use Rattle.plain_state.specs.State.{Plain, stage_at}
-use Rattle.plain_store.specs.Heaps.{Makes, NoneFree}
-use Rattle.script_lines.specs.declared.command.Command.{Command}
-use Rattle.script_lines.specs.declared.command.Command.TheVariants as command
+use Rattle.script_desk.specs.line_words.declared.reason.Reason.{Reason}
+use Rattle.script_desk.specs.plain_state.declared.slot.SlotId.{SlotId}
+use Rattle.script_desk.specs.plain_state.State.{Plain, stage_at}
+use Rattle.script_desk.specs.plain_store.Heaps.{Makes, NoneFree}
+use Rattle.script_desk.specs.script_lines.declared.command.Command.{Command}
+use Rattle.script_desk.specs.script_lines.declared.command.Command.TheVariants as command
 use Rattle.script_desk.specs.declared.said.Said.{Said}
 use Rattle.script_desk.specs.declared.sizes.Sizes.{Sizes}
 use Rattle.script_desk.specs.Desks.{Desk, scope, scope_of}

@@ -1,19 +1,19 @@
 -- States that are alike settle to states that are alike.
 use Rattle.std.proofs.Common.{◌≡◌, ◌≢◌, ◌⊎◌, inl, inr, ⊎_elim, ℕ, ◌+◌, ◌<◌, length, refl, ap, sym, ◌∙◌, subst, subst₂, arith}
 use Rattle.std.specs.Prelude.{map}
-use Rattle.plain_state.specs.declared.slot.Kind.{Kind}
-use Rattle.plain_state.specs.declared.slot.Kind.TheVariants.{Weak}
-use Rattle.plain_state.specs.declared.slot.SlotId.{SlotId}
-use Rattle.plain_state.specs.declared.slot.Stage.{Stage}
-use Rattle.plain_state.specs.declared.slot.Stage.TheVariants.{Free, Blank, Live, Ended, Husk}
-use Rattle.plain_state.specs.Lawful.{HasNullFields, IsVacant}
-use Rattle.plain_state.specs.Lists.{entry_times, times}
-use Rattle.plain_state.specs.References.{deferrals, over_seats, own_reference, places, weak_refs}
-use Rattle.plain_state.specs.Sound.{Sound}
-use Rattle.plain_state.specs.State.{Plain, seat_at, slot_at, stage_at}
-use Rattle.plain_state.proofs.Kit.{none_by}
-use Rattle.plain_store.specs.Settling.{IsSettled}
-use Rattle.plain_audit.proofs.Numbers.{seat_alone}
+use Rattle.script_desk.specs.plain_state.declared.slot.Kind.{Kind}
+use Rattle.script_desk.specs.plain_state.declared.slot.Kind.TheVariants.{Weak}
+use Rattle.script_desk.specs.plain_state.declared.slot.SlotId.{SlotId}
+use Rattle.script_desk.specs.plain_state.declared.slot.Stage.{Stage}
+use Rattle.script_desk.specs.plain_state.declared.slot.Stage.TheVariants.{Free, Blank, Live, Ended, Husk}
+use Rattle.script_desk.specs.plain_state.Lawful.{HasNullFields, IsVacant}
+use Rattle.script_desk.specs.plain_state.Lists.{entry_times, times}
+use Rattle.script_desk.specs.plain_state.References.{deferrals, over_seats, own_reference, places, weak_refs}
+use Rattle.script_desk.specs.plain_state.Sound.{Sound}
+use Rattle.script_desk.specs.plain_state.State.{Plain, seat_at, slot_at, stage_at}
+use Rattle.script_desk.proofs.Below.plain_state.Kit.{none_by}
+use Rattle.script_desk.specs.plain_store.Settling.{IsSettled}
+use Rattle.script_desk.proofs.Below.plain_audit.Numbers.{seat_alone}
 use Rattle.script_law.specs.Renamings.{IsRenaming, renamed}
 use Rattle.script_law.specs.States.{SeatsAlike, SlotsAlike, StatesAlike}
 use Rattle.script_law.proofs.States.{FieldsAlike, fields_of, held_alike, places_alike}

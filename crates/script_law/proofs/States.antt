@@ -3,19 +3,19 @@ use Rattle.std.proofs.Common.{◌≡◌, ◌≢◌, ⊎_elim, ℕ, ◌<◌, leng
 use Rattle.std.specs.Prelude.{◌==◌, Bool, true, false, map, if◌then◌else◌}
 use Rattle.std.proofs.lemmas.List.{length-set, map-set}
 use Rattle.std.proofs.Math.ListN.{get_or-map}
-use Rattle.plain_state.specs.declared.act.EventPlace.{EventPlace}
-use Rattle.plain_state.specs.declared.act.EventPlace.TheVariants.{Cell, Field, WeakCell, WeakField}
-use Rattle.plain_state.specs.declared.slot.Kind.{Kind}
-use Rattle.plain_state.specs.declared.slot.Kind.TheVariants.{Strong, Weak, Disposal}
-use Rattle.plain_state.specs.declared.slot.PlainSlot.{PlainSlot}
-use Rattle.plain_state.specs.declared.slot.SlotId.{SlotId}
-use Rattle.plain_state.specs.Lists.{cell_times, entry_times, times}
-use Rattle.plain_state.specs.Places.{content, with_content, with_field}
-use Rattle.plain_state.specs.References.{held_in, over_seats, over_slots, own_reference, places, deferrals, strong_fields, strong_refs, weak_fields, weak_refs}
-use Rattle.plain_state.specs.State.{Plain, PlainSeat, new_seat, seat_at, slot_at, with_seat, with_slot}
-use Rattle.plain_state.proofs.Changes.{IsThere, slot_other, slot_same}
-use Rattle.plain_state.proofs.Kit.{cases_slot}
-use Rattle.plain_audit.proofs.Numbers.{seat_alone}
+use Rattle.script_desk.specs.plain_state.declared.act.EventPlace.{EventPlace}
+use Rattle.script_desk.specs.plain_state.declared.act.EventPlace.TheVariants.{Cell, Field, WeakCell, WeakField}
+use Rattle.script_desk.specs.plain_state.declared.slot.Kind.{Kind}
+use Rattle.script_desk.specs.plain_state.declared.slot.Kind.TheVariants.{Strong, Weak, Disposal}
+use Rattle.script_desk.specs.plain_state.declared.slot.PlainSlot.{PlainSlot}
+use Rattle.script_desk.specs.plain_state.declared.slot.SlotId.{SlotId}
+use Rattle.script_desk.specs.plain_state.Lists.{cell_times, entry_times, times}
+use Rattle.script_desk.specs.plain_state.Places.{content, with_content, with_field}
+use Rattle.script_desk.specs.plain_state.References.{held_in, over_seats, over_slots, own_reference, places, deferrals, strong_fields, strong_refs, weak_fields, weak_refs}
+use Rattle.script_desk.specs.plain_state.State.{Plain, PlainSeat, new_seat, seat_at, slot_at, with_seat, with_slot}
+use Rattle.script_desk.proofs.Below.plain_state.Changes.{IsThere, slot_other, slot_same}
+use Rattle.script_desk.proofs.Below.plain_state.Kit.{cases_slot}
+use Rattle.script_desk.proofs.Below.plain_audit.Numbers.{seat_alone}
 use Rattle.script_law.specs.Renamings.{IsRenaming, renamed}
 use Rattle.script_law.specs.States.{SeatsAlike, SlotsAlike, StatesAlike}
 use Rattle.script_law.proofs.Counts.{apart, cells_renamed, held_renamed}

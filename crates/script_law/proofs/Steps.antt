@@ -1,19 +1,19 @@
 -- The same step of two states that are alike, by the new names, leads to states that are alike.
 use Rattle.std.proofs.Common.{◌≡◌, ℕ, ◌<◌, List, [], ◌∷◌, ◌++◌, length, refl, ap, sym, ◌∙◌, subst, subst₂, arith, Option, Some, None}
-use Rattle.plain_state.specs.declared.act.EventPlace.{EventPlace}
-use Rattle.plain_state.specs.declared.act.EventPlace.TheVariants.{Cell, Field, WeakCell, WeakField}
-use Rattle.plain_state.specs.declared.act.PlainAct.TheVariants as act
-use Rattle.plain_state.specs.declared.slot.Kind.{Kind}
-use Rattle.plain_state.specs.declared.slot.Kind.TheVariants.{Strong, Weak, Disposal}
-use Rattle.plain_state.specs.declared.slot.SlotId.{SlotId}
-use Rattle.plain_state.specs.Lists.{Entry, Loses}
-use Rattle.plain_state.specs.Places.{content, place_kind, with_content}
-use Rattle.plain_state.specs.State.{Plain, PlainSeat, seat_at, with_seat}
-use Rattle.plain_state.specs.Steps.{Does, GivesUp, Replaces, joined}
-use Rattle.plain_state.proofs.Changes.{IsThere}
-use Rattle.plain_state.proofs.Kit.{of_kind}
-use Rattle.plain_state.proofs.PlaceRows.{joined_times}
-use Rattle.plain_store.specs.Calls.{gained, weakly_gained}
+use Rattle.script_desk.specs.plain_state.declared.act.EventPlace.{EventPlace}
+use Rattle.script_desk.specs.plain_state.declared.act.EventPlace.TheVariants.{Cell, Field, WeakCell, WeakField}
+use Rattle.script_desk.specs.plain_state.declared.act.PlainAct.TheVariants as act
+use Rattle.script_desk.specs.plain_state.declared.slot.Kind.{Kind}
+use Rattle.script_desk.specs.plain_state.declared.slot.Kind.TheVariants.{Strong, Weak, Disposal}
+use Rattle.script_desk.specs.plain_state.declared.slot.SlotId.{SlotId}
+use Rattle.script_desk.specs.plain_state.Lists.{Entry, Loses}
+use Rattle.script_desk.specs.plain_state.Places.{content, place_kind, with_content}
+use Rattle.script_desk.specs.plain_state.State.{Plain, PlainSeat, seat_at, with_seat}
+use Rattle.script_desk.specs.plain_state.Steps.{Does, GivesUp, Replaces, joined}
+use Rattle.script_desk.proofs.Below.plain_state.Changes.{IsThere}
+use Rattle.script_desk.proofs.Below.plain_state.Kit.{of_kind}
+use Rattle.script_desk.proofs.Below.plain_state.PlaceRows.{joined_times}
+use Rattle.script_desk.specs.plain_store.Calls.{gained, weakly_gained}
 use Rattle.script_law.specs.Renamings.{IsRenaming, renamed}
 use Rattle.script_law.specs.States.{SeatsAlike, StatesAlike}
 use Rattle.script_law.proofs.Counts.{Entries, entries_gain, entries_lose, held_renamed, slots_lose, slots_push}

@@ -3,12 +3,12 @@ use Rattle.std.proofs.Common.{◌≡◌, ◌≢◌, ⊎_elim, ℕ, ◌+◌, ◌<
 use Rattle.std.specs.Prelude.{◌==◌, if◌then◌else◌}
 use Rattle.std.proofs.lemmas.Bool.Decides.{nat_tests}
 use Rattle.std.proofs.lemmas.List.Sums.{sum_by-cons}
-use Rattle.plain_state.specs.declared.slot.SlotId.{SlotId}
-use Rattle.plain_state.specs.declared.slot.PlainSlot.{PlainSlot}
-use Rattle.plain_state.specs.References.{over_slots}
-use Rattle.plain_state.specs.State.{new_slot}
-use Rattle.plain_state.proofs.Kit.{cases_slot}
-use Rattle.heap_audit.specs.Heaps.{slot}
+use Rattle.script_desk.specs.plain_state.declared.slot.SlotId.{SlotId}
+use Rattle.script_desk.specs.plain_state.declared.slot.PlainSlot.{PlainSlot}
+use Rattle.script_desk.specs.plain_state.References.{over_slots}
+use Rattle.script_desk.specs.plain_state.State.{new_slot}
+use Rattle.script_desk.proofs.Below.plain_state.Kit.{cases_slot}
+use Rattle.script_desk.specs.heap_audit.Heaps.{slot}
 use Rattle.script_law.specs.Renamings.{IsRenaming}
 
 -- a and b change places

@@ -1,12 +1,12 @@
 -- Two free slots may change their new names.
 use Rattle.std.proofs.Common.{◌≡◌, ◌≢◌, ⊎_elim, ℕ, ◌<◌, List, [], ◌∷◌, length, refl, ap, ap₂, sym, ◌∙◌, subst, arith, Option, Some, None}
 use Rattle.std.specs.Prelude.{map}
-use Rattle.plain_state.specs.declared.slot.SlotId.{SlotId}
-use Rattle.plain_state.specs.declared.slot.Stage.TheVariants.{Free}
-use Rattle.plain_state.specs.Lists.{cell_times, entry_times, times}
-use Rattle.plain_state.specs.References.{held_in}
-use Rattle.plain_state.specs.State.{seat_at, slot_at, stage_at}
-use Rattle.plain_state.proofs.Kit.{cases_slot, held_self, slot_is}
+use Rattle.script_desk.specs.plain_state.declared.slot.SlotId.{SlotId}
+use Rattle.script_desk.specs.plain_state.declared.slot.Stage.TheVariants.{Free}
+use Rattle.script_desk.specs.plain_state.Lists.{cell_times, entry_times, times}
+use Rattle.script_desk.specs.plain_state.References.{held_in}
+use Rattle.script_desk.specs.plain_state.State.{seat_at, slot_at, stage_at}
+use Rattle.script_desk.proofs.Below.plain_state.Kit.{cases_slot, held_self, slot_is}
 use Rattle.script_desk.specs.declared.handle.Handle.{Handle}
 use Rattle.script_desk.specs.declared.handle.Handle.TheVariants.{Strong, Weak, Snapshot}
 use Rattle.script_desk.specs.Desks.{Desk, bound, maker_of}

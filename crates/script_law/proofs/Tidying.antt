@@ -1,26 +1,26 @@
 -- Each step of a tidying leaves what tidying leaves.
 use Rattle.std.proofs.Common.{◌≡◌, ℕ, ◌+◌, ◌<◌, List, [], ◌∷◌, ◌++◌, length, get_or, set, refl, ap, sym, ◌∙◌, subst, arith, Option, None, true}
 use Rattle.std.specs.Prelude.{◌==◌}
-use Rattle.plain_state.specs.declared.act.EventPlace.{EventPlace}
-use Rattle.plain_state.specs.declared.act.EventPlace.TheVariants.{Cell, Field, WeakCell, WeakField}
-use Rattle.plain_state.specs.declared.act.PlainAct.{PlainAct}
-use Rattle.plain_state.specs.declared.act.PlainAct.TheVariants as act
-use Rattle.plain_state.specs.declared.slot.Kind.{Kind}
-use Rattle.plain_state.specs.declared.slot.Kind.TheVariants.{Strong, Weak, Disposal}
-use Rattle.plain_state.specs.declared.slot.PlainSlot.{PlainSlot}
-use Rattle.plain_state.specs.declared.slot.SlotId.{SlotId}
-use Rattle.plain_state.specs.declared.slot.Stage.TheVariants.{Free, Ended, Husk}
-use Rattle.plain_state.specs.Places.{IsDyingField, content, place_kind, with_content, with_field}
-use Rattle.plain_state.specs.References.{held_in, places}
-use Rattle.plain_state.specs.Sound.{Sound}
-use Rattle.plain_state.specs.State.{Plain, PlainSeat, new_seat, seat_at, slot_at, stage_at, with_seat, with_slot}
-use Rattle.plain_state.specs.Steps.{Does, joined}
-use Rattle.plain_state.proofs.Changes.{IsThere, field_object, place_change}
-use Rattle.plain_state.proofs.EveryStep.{step_sound}
-use Rattle.plain_state.proofs.Kit.{held_none, of_kind, times_lost}
-use Rattle.plain_state.proofs.SeatRows.{is_there}
-use Rattle.plain_state.proofs.SlotRows.{dying_ended}
-use Rattle.plain_settling.specs.Settling.{Tidies, TidiesBy}
+use Rattle.script_desk.specs.plain_state.declared.act.EventPlace.{EventPlace}
+use Rattle.script_desk.specs.plain_state.declared.act.EventPlace.TheVariants.{Cell, Field, WeakCell, WeakField}
+use Rattle.script_desk.specs.plain_state.declared.act.PlainAct.{PlainAct}
+use Rattle.script_desk.specs.plain_state.declared.act.PlainAct.TheVariants as act
+use Rattle.script_desk.specs.plain_state.declared.slot.Kind.{Kind}
+use Rattle.script_desk.specs.plain_state.declared.slot.Kind.TheVariants.{Strong, Weak, Disposal}
+use Rattle.script_desk.specs.plain_state.declared.slot.PlainSlot.{PlainSlot}
+use Rattle.script_desk.specs.plain_state.declared.slot.SlotId.{SlotId}
+use Rattle.script_desk.specs.plain_state.declared.slot.Stage.TheVariants.{Free, Ended, Husk}
+use Rattle.script_desk.specs.plain_state.Places.{IsDyingField, content, place_kind, with_content, with_field}
+use Rattle.script_desk.specs.plain_state.References.{held_in, places}
+use Rattle.script_desk.specs.plain_state.Sound.{Sound}
+use Rattle.script_desk.specs.plain_state.State.{Plain, PlainSeat, new_seat, seat_at, slot_at, stage_at, with_seat, with_slot}
+use Rattle.script_desk.specs.plain_state.Steps.{Does, joined}
+use Rattle.script_desk.proofs.Below.plain_state.Changes.{IsThere, field_object, place_change}
+use Rattle.script_desk.proofs.Below.plain_state.EveryStep.{step_sound}
+use Rattle.script_desk.proofs.Below.plain_state.Kit.{held_none, of_kind, times_lost}
+use Rattle.script_desk.proofs.Below.plain_state.SeatRows.{is_there}
+use Rattle.script_desk.proofs.Below.plain_state.SlotRows.{dying_ended}
+use Rattle.script_desk.specs.plain_settling.Settling.{Tidies, TidiesBy}
 use Rattle.script_law.proofs.Fates.{Balanced, KeepsLists, KeepsSlots, Tidying, balanced_clear, balanced_eject, balanced_same, ended_fate, places_stay, seat_is, seat_places, seats_stay, slots_written, there}
 
 -- the seat is no slot

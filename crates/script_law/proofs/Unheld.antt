@@ -2,18 +2,18 @@
 use Rattle.std.proofs.Common.{◌≡◌, ⊎_elim, ◌<◌, ◌≤◌, length, ap, arith}
 use Rattle.std.proofs.lemmas.Bool.{cases_lt}
 use Rattle.std.proofs.lemmas.List.{get_or_past}
-use Rattle.plain_state.specs.declared.slot.Kind.{Kind}
-use Rattle.plain_state.specs.declared.slot.Kind.TheVariants.{Strong, Weak, Disposal}
-use Rattle.plain_state.specs.declared.slot.PlainSlot.{PlainSlot}
-use Rattle.plain_state.specs.declared.slot.SlotId.{SlotId}
-use Rattle.plain_state.specs.declared.slot.Stage.TheVariants.{Free}
-use Rattle.plain_state.specs.Lawful.{HasNullFields}
-use Rattle.plain_state.specs.Lists.{cell_times, entry_times, times}
-use Rattle.plain_state.specs.References.{held_in, snapshot_times, strong_fields, strong_refs, weak_fields, weak_refs}
-use Rattle.plain_state.specs.Sound.{Sound}
-use Rattle.plain_state.specs.State.{Plain, new_slot, seat_at, slot_at, stage_at}
-use Rattle.plain_state.proofs.Kit.{held_none, none_by, slots_at}
-use Rattle.plain_audit.proofs.Numbers.{seat_alone}
+use Rattle.script_desk.specs.plain_state.declared.slot.Kind.{Kind}
+use Rattle.script_desk.specs.plain_state.declared.slot.Kind.TheVariants.{Strong, Weak, Disposal}
+use Rattle.script_desk.specs.plain_state.declared.slot.PlainSlot.{PlainSlot}
+use Rattle.script_desk.specs.plain_state.declared.slot.SlotId.{SlotId}
+use Rattle.script_desk.specs.plain_state.declared.slot.Stage.TheVariants.{Free}
+use Rattle.script_desk.specs.plain_state.Lawful.{HasNullFields}
+use Rattle.script_desk.specs.plain_state.Lists.{cell_times, entry_times, times}
+use Rattle.script_desk.specs.plain_state.References.{held_in, snapshot_times, strong_fields, strong_refs, weak_fields, weak_refs}
+use Rattle.script_desk.specs.plain_state.Sound.{Sound}
+use Rattle.script_desk.specs.plain_state.State.{Plain, new_slot, seat_at, slot_at, stage_at}
+use Rattle.script_desk.proofs.Below.plain_state.Kit.{held_none, none_by, slots_at}
+use Rattle.script_desk.proofs.Below.plain_audit.Numbers.{seat_alone}
 use Rattle.script_law.specs.Orderly.{IsQuiet}
 
 module _ (p : Plain) (so : Sound p) (one : length p.seats ≡ 1) (quiet : IsQuiet p) (s : SlotId) (free : stage_at p s ≡ Free) where

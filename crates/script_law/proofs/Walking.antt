@@ -4,8 +4,8 @@ use Rattle.std.specs.Prelude.{map}
 use Rattle.std.specs.List.{AllPairs}
 use Rattle.std.proofs.lemmas.List.{get_or-map, length-map, map-append, reverse-append}
 use Rattle.std.proofs.lemmas.List.Elements.{All-cons, All-head, All-nil, All-tail}
-use Rattle.plain_state.specs.declared.slot.SlotId.{SlotId}
-use Rattle.heap_audit.specs.Walks.{BeginsLeast, GoesTo, IsFoundAmong, rank_of}
+use Rattle.script_desk.specs.plain_state.declared.slot.SlotId.{SlotId}
+use Rattle.script_desk.specs.heap_audit.Walks.{BeginsLeast, GoesTo, IsFoundAmong, rank_of}
 use Rattle.script_law.proofs.Reaching.{path_renamed}
 
 map_reverse : (to : SlotId → SlotId) (xs : List SlotId) → map to (reverse xs) ≡ reverse (map to xs)

@@ -1,12 +1,12 @@
 -- What holds of a desk between two commands.
 use Rattle.std.specs.Prelude.{ℕ, ◌≡◌, ◌≢◌, ◌<◌, List, [], ◌∷◌, length, None}
 use Rattle.std.specs.Map.{values_of}
-use Rattle.plain_state.specs.declared.slot.Kind.TheVariants.{Disposal}
-use Rattle.plain_state.specs.declared.slot.SlotId.{SlotId}
-use Rattle.plain_state.specs.declared.slot.Stage.TheVariants.{Free}
-use Rattle.plain_state.specs.Sound.{Sound}
-use Rattle.plain_state.specs.Lists.{entry_times}
-use Rattle.plain_state.specs.State.{Plain, empty, seat_at, stage_at}
+use Rattle.script_desk.specs.plain_state.declared.slot.Kind.TheVariants.{Disposal}
+use Rattle.script_desk.specs.plain_state.declared.slot.SlotId.{SlotId}
+use Rattle.script_desk.specs.plain_state.declared.slot.Stage.TheVariants.{Free}
+use Rattle.script_desk.specs.plain_state.Sound.{Sound}
+use Rattle.script_desk.specs.plain_state.Lists.{entry_times}
+use Rattle.script_desk.specs.plain_state.State.{Plain, empty, seat_at, stage_at}
 use Rattle.script_desk.specs.Desks.{Desk, Names, bound, maker_of, nobody}
 use Rattle.script_desk.specs.Holding.{HoldsFor}
 

@@ -1,6 +1,6 @@
 -- New names for the slots of a heap, one to one.
 use Rattle.std.specs.Prelude.{ℕ, ◌≡◌, ◌<◌, Option, Some, None}
-use Rattle.plain_state.specs.declared.slot.SlotId.{SlotId}
+use Rattle.script_desk.specs.plain_state.declared.slot.SlotId.{SlotId}
 
 -- `to` gives each slot its new name, and `from` leads back; the first n slots are named among themselves
 pub record IsRenaming (n : ℕ) (to from : SlotId → SlotId) : Type 0 where

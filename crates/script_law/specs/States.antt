@@ -1,11 +1,11 @@
 -- Heaps of one seat that differ in nothing but which slots their objects stand in, and in the orders of lists.
 use Rattle.std.specs.Prelude.{◌≡◌, ◌≢◌, length, map}
-use Rattle.plain_state.specs.declared.slot.Kind.{Kind}
-use Rattle.plain_state.specs.declared.slot.PlainSlot.{PlainSlot}
-use Rattle.plain_state.specs.declared.slot.SlotId.{SlotId}
-use Rattle.plain_state.specs.declared.slot.Stage.TheVariants.{Free}
-use Rattle.plain_state.specs.Lists.{times, entry_times}
-use Rattle.plain_state.specs.State.{Plain, PlainSeat, seat_at, slot_at}
+use Rattle.script_desk.specs.plain_state.declared.slot.Kind.{Kind}
+use Rattle.script_desk.specs.plain_state.declared.slot.PlainSlot.{PlainSlot}
+use Rattle.script_desk.specs.plain_state.declared.slot.SlotId.{SlotId}
+use Rattle.script_desk.specs.plain_state.declared.slot.Stage.TheVariants.{Free}
+use Rattle.script_desk.specs.plain_state.Lists.{times, entry_times}
+use Rattle.script_desk.specs.plain_state.State.{Plain, PlainSeat, seat_at, slot_at}
 use Rattle.script_law.specs.Renamings.{renamed}
 
 -- a slot and the slot of its new name: they are equal but for their lives, and the payload of a free slot is nobody's

@@ -1,12 +1,12 @@
 //! What holds of desks that are alike.
 ghost use Rattle.std.specs.Prelude.{◌≡◌, ℕ, Option, length};
-ghost use Rattle.line_words.specs.declared.reason.Reason.{Reason};
-ghost use Rattle.plain_state.specs.declared.slot.SlotId.{SlotId};
-ghost use Rattle.plain_state.specs.Sound.{Sound};
-ghost use Rattle.plain_state.specs.State.{Plain};
-ghost use Rattle.plain_store.specs.Settling.{IsSettled};
-ghost use Rattle.plain_settling.specs.Settling.{TidiesTo};
-ghost use Rattle.script_lines.specs.declared.command.Command.{Command};
+ghost use Rattle.script_desk.specs.line_words.declared.reason.Reason.{Reason};
+ghost use Rattle.script_desk.specs.plain_state.declared.slot.SlotId.{SlotId};
+ghost use Rattle.script_desk.specs.plain_state.Sound.{Sound};
+ghost use Rattle.script_desk.specs.plain_state.State.{Plain};
+ghost use Rattle.script_desk.specs.plain_store.Settling.{IsSettled};
+ghost use Rattle.script_desk.specs.plain_settling.Settling.{TidiesTo};
+ghost use Rattle.script_desk.specs.script_lines.declared.command.Command.{Command};
 ghost use Rattle.script_desk.specs.declared.said.Said.{Said};
 ghost use Rattle.script_desk.specs.Desks.{Desk, scope_of};
 ghost use Rattle.script_desk.specs.Effects.{Runs};

@@ -20,3 +20,8 @@ pub use laws::{
     alike_desks_have_the_same_faults, alike_is_an_equivalence, commands_answer_alike,
     fresh_desks_are_alike, orderly_desks_stay_orderly, tidying_has_one_end,
 };
+pub use script_desk::{
+    Command, CommandRefused, Deleter, Desk, Heap, Kind, MOST_CELLS, MOST_SLOTS, MOST_WEAK_CELLS,
+    Name, NoLaw, PayloadKind, Said, ScriptKind, ScriptLine, Shown, SlotId, SlotImage, ZERO, audit,
+    check_walk, lawful, script_line,
+};

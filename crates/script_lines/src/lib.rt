@@ -23,11 +23,10 @@ mod name;
 mod parse;
 mod place;
 mod refused;
-#[cfg(test)]
-mod tests;
 mod verb;
 
 pub use crate::command::{Command, ScriptLine, TextPlace};
 pub use crate::name::Name;
 pub use crate::parse::script_line;
 pub use crate::refused::CommandRefused;
+pub use line_words::{Back, OutOfMemory, Reason};

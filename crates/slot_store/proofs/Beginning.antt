@@ -3,36 +3,36 @@ use Rattle.std.proofs.Common.{◌≡◌, ◌≢◌, ⊎_elim, ℕ, ◌+◌, ◌<
 use Rattle.std.specs.Prelude.{None}
 use Rattle.std.proofs.lemmas.Bool.{cases_lt}
 use Rattle.std.proofs.lemmas.Bool.Decides.{nat_tests}
-use Rattle.plain_state.specs.declared.slot.SlotId.{SlotId}
-use Rattle.plain_state.specs.Lists.{times}
-use Rattle.plain_state.specs.References.{held_in}
-use Rattle.plain_protocol.specs.Owns.{HasSlot}
-use Rattle.core_events.specs.declared.act.Act.TheVariants as act
-use Rattle.core_events.specs.declared.outcome.Outcome.{Outcome}
-use Rattle.core_events.specs.declared.outcome.Outcome.TheVariants as outcome
-use Rattle.core_events.specs.declared.shape.Shape.{Shape}
-use Rattle.core_events.specs.declared.view.CoreView.{CoreView}
-use Rattle.core_events.specs.declared.view.Move.{Move}
-use Rattle.core_events.specs.declared.view.Phase.{Phase}
-use Rattle.core_events.specs.declared.view.Phase.TheVariants as phase
-use Rattle.core_events.specs.Counts.{baring}
-use Rattle.core_events.specs.Runs.{Core, view_at}
-use Rattle.core_events.specs.Shows.{show_seat}
-use Rattle.core_events.specs.Views.{about, held_times, slot_of}
-use Rattle.core_law.specs.Sound.{Sound}
-use Rattle.core_law.proofs.Held.{held_taken}
-use Rattle.core_law.proofs.Kit.{one_same, total_at}
-use Rattle.core_law.proofs.Parts.{sound_good}
-use Rattle.domain_rule.proofs.Others.{has_there}
-use Rattle.acquire_retire.specs.Calls.{IsOf, IsSameView, Steps, same_view}
-use Rattle.acquire_retire.specs.Collecting.{move}
-use Rattle.acquire_retire.specs.Domains.{DomainState}
-use Rattle.acquire_retire.specs.Seats.{SeatState}
-use Rattle.control_word.specs.Resting.{IsAtRest}
-use Rattle.control_word.proofs.Becoming.{Comes, bare, comes_more, comes_one, walks_table}
+use Rattle.protocol_pairs.specs.plain_state.declared.slot.SlotId.{SlotId}
+use Rattle.protocol_pairs.specs.plain_state.Lists.{times}
+use Rattle.protocol_pairs.specs.plain_state.References.{held_in}
+use Rattle.protocol_pairs.specs.plain_protocol.Owns.{HasSlot}
+use Rattle.claim_law.specs.core_events.declared.act.Act.TheVariants as act
+use Rattle.claim_law.specs.core_events.declared.outcome.Outcome.{Outcome}
+use Rattle.claim_law.specs.core_events.declared.outcome.Outcome.TheVariants as outcome
+use Rattle.claim_law.specs.core_events.declared.shape.Shape.{Shape}
+use Rattle.claim_law.specs.core_events.declared.view.CoreView.{CoreView}
+use Rattle.claim_law.specs.core_events.declared.view.Move.{Move}
+use Rattle.claim_law.specs.core_events.declared.view.Phase.{Phase}
+use Rattle.claim_law.specs.core_events.declared.view.Phase.TheVariants as phase
+use Rattle.claim_law.specs.core_events.Counts.{baring}
+use Rattle.claim_law.specs.core_events.Runs.{Core, view_at}
+use Rattle.claim_law.specs.core_events.Shows.{show_seat}
+use Rattle.claim_law.specs.core_events.Views.{about, held_times, slot_of}
+use Rattle.claim_law.specs.core_law.Sound.{Sound}
+use Rattle.claim_law.proofs.Below.core_law.Held.{held_taken}
+use Rattle.claim_law.proofs.Below.core_law.Kit.{one_same, total_at}
+use Rattle.claim_law.proofs.Below.core_law.Parts.{sound_good}
+use Rattle.retiring_stores.proofs.Below.domain_rule.Others.{has_there}
+use Rattle.retiring_stores.specs.acquire_retire.Calls.{IsOf, IsSameView, Steps, same_view}
+use Rattle.retiring_stores.specs.acquire_retire.Collecting.{move}
+use Rattle.retiring_stores.specs.acquire_retire.Domains.{DomainState}
+use Rattle.retiring_stores.specs.acquire_retire.Seats.{SeatState}
+use Rattle.retiring_stores.specs.control_word.Resting.{IsAtRest}
+use Rattle.retiring_stores.proofs.Below.control_word.Becoming.{Comes, bare, comes_more, comes_one, walks_table}
 use Rattle.slot_store.specs.Calls.{Begins, Fills, begun_by, filled_by, with_blank}
 use Rattle.slot_store.specs.Searching.{Claims, taken_by, with_bare}
-use Rattle.control_word.proofs.Finding.{sound_before}
+use Rattle.retiring_stores.proofs.Below.control_word.Finding.{sound_before}
 use Rattle.slot_store.proofs.Claims.{comes_of, goes_of}
 
 none_held : (x : SlotId) → held_in x None ≡ 0

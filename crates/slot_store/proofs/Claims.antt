@@ -3,22 +3,22 @@ use Rattle.std.proofs.Common.{◌≡◌, ◌≢◌, ℕ, ◌%◌, Bool, true, fa
 use Rattle.std.specs.Prelude.{◌==◌, if◌then◌else◌}
 use Rattle.std.proofs.lemmas.Bool.Decides.{nat_tests}
 use Rattle.std.proofs.lemmas.Nat.Bits.{bit_at-lt}
-use Rattle.plain_state.specs.declared.act.PlainAct.TheVariants as plain
-use Rattle.plain_state.specs.declared.slot.SlotId.{SlotId}
-use Rattle.plain_protocol.specs.Owns.{HasSlot, Object}
-use Rattle.core_events.specs.declared.act.Act.TheVariants as act
-use Rattle.core_events.specs.declared.outcome.Outcome.{Outcome}
-use Rattle.core_events.specs.declared.outcome.Outcome.TheVariants as outcome
-use Rattle.core_events.specs.declared.view.CoreView.{CoreView}
-use Rattle.core_events.specs.declared.view.Move.{Move}
-use Rattle.core_events.specs.Shows.{show_seat}
-use Rattle.core_events.specs.Words.{bit_in}
-use Rattle.domain_rule.specs.Told.{changed_object}
-use Rattle.acquire_retire.specs.Calls.{IsSameView, Steps, same_view}
-use Rattle.acquire_retire.specs.Collecting.{move}
-use Rattle.acquire_retire.specs.Domains.{DomainState}
-use Rattle.acquire_retire.specs.Seats.{SeatState}
-use Rattle.control_word.proofs.Becoming.{Comes, bare, comes_one}
+use Rattle.protocol_pairs.specs.plain_state.declared.act.PlainAct.TheVariants as plain
+use Rattle.protocol_pairs.specs.plain_state.declared.slot.SlotId.{SlotId}
+use Rattle.protocol_pairs.specs.plain_protocol.Owns.{HasSlot, Object}
+use Rattle.claim_law.specs.core_events.declared.act.Act.TheVariants as act
+use Rattle.claim_law.specs.core_events.declared.outcome.Outcome.{Outcome}
+use Rattle.claim_law.specs.core_events.declared.outcome.Outcome.TheVariants as outcome
+use Rattle.claim_law.specs.core_events.declared.view.CoreView.{CoreView}
+use Rattle.claim_law.specs.core_events.declared.view.Move.{Move}
+use Rattle.claim_law.specs.core_events.Shows.{show_seat}
+use Rattle.claim_law.specs.core_events.Words.{bit_in}
+use Rattle.retiring_stores.specs.domain_rule.Told.{changed_object}
+use Rattle.retiring_stores.specs.acquire_retire.Calls.{IsSameView, Steps, same_view}
+use Rattle.retiring_stores.specs.acquire_retire.Collecting.{move}
+use Rattle.retiring_stores.specs.acquire_retire.Domains.{DomainState}
+use Rattle.retiring_stores.specs.acquire_retire.Seats.{SeatState}
+use Rattle.retiring_stores.proofs.Below.control_word.Becoming.{Comes, bare, comes_one}
 use Rattle.slot_store.specs.Searching.{Goes, with_bare}
 use Rattle.slot_store.proofs.Tries.{append_nil}
 

@@ -3,26 +3,26 @@ use Rattle.std.proofs.Common.{◌≡◌, ◌≢◌, ◌⊎◌, inl, inr, ⊎_eli
 use Rattle.std.specs.Prelude.{◌==◌, nat_lt, Some, slice_index, if◌then◌else◌}
 use Rattle.std.proofs.lemmas.Bool.{cases_eq, cases_lt}
 use Rattle.std.proofs.lemmas.Bool.Decides.{nat_tests}
-use Rattle.plain_state.specs.declared.slot.Kind.TheVariants.{Strong}
-use Rattle.plain_state.specs.declared.slot.PlainSlot.{PlainSlot}
-use Rattle.plain_state.specs.declared.slot.SlotId.{SlotId}
-use Rattle.plain_state.specs.declared.slot.Stage.{Stage}
-use Rattle.plain_state.specs.declared.slot.Stage.TheVariants.{Free, Blank, Live, Ended, Husk}
-use Rattle.plain_state.specs.Lists.{entry_times, times}
-use Rattle.plain_state.specs.State.{stage_at}
-use Rattle.core_events.specs.declared.shape.Shape.{Shape}
-use Rattle.core_events.specs.declared.view.CoreView.{CoreView}
-use Rattle.core_events.specs.declared.view.Phase.TheVariants as phase
-use Rattle.core_events.specs.Counts.{Signs, fields_holding, finishers, finishing, helpers, helping, in_word, is_live_word, listed, places, dying_times, signs, stage, stage_of, strong, sum_below, total}
-use Rattle.core_events.specs.Good.{SeatLaw}
-use Rattle.core_events.specs.Runs.{Core, HasNullFields, view_at}
-use Rattle.core_events.specs.Shows.{shows}
-use Rattle.core_events.specs.Words.{cell_at, field_at, slot_in}
-use Rattle.counter_word.specs.Words.{has_help, value}
-use Rattle.core_law.specs.Sound.{Sound}
-use Rattle.core_law.proofs.Kit.{below_none, entry_none, slot_eq, times_none}
-use Rattle.core_law.proofs.Parts.{sound_good}
-use Rattle.core_law.proofs.Bridge.{shown_past, shown_slot, shown_stage, total_zero}
+use Rattle.protocol_pairs.specs.plain_state.declared.slot.Kind.TheVariants.{Strong}
+use Rattle.protocol_pairs.specs.plain_state.declared.slot.PlainSlot.{PlainSlot}
+use Rattle.protocol_pairs.specs.plain_state.declared.slot.SlotId.{SlotId}
+use Rattle.protocol_pairs.specs.plain_state.declared.slot.Stage.{Stage}
+use Rattle.protocol_pairs.specs.plain_state.declared.slot.Stage.TheVariants.{Free, Blank, Live, Ended, Husk}
+use Rattle.protocol_pairs.specs.plain_state.Lists.{entry_times, times}
+use Rattle.protocol_pairs.specs.plain_state.State.{stage_at}
+use Rattle.claim_law.specs.core_events.declared.shape.Shape.{Shape}
+use Rattle.claim_law.specs.core_events.declared.view.CoreView.{CoreView}
+use Rattle.claim_law.specs.core_events.declared.view.Phase.TheVariants as phase
+use Rattle.claim_law.specs.core_events.Counts.{Signs, fields_holding, finishers, finishing, helpers, helping, in_word, is_live_word, listed, places, dying_times, signs, stage, stage_of, strong, sum_below, total}
+use Rattle.claim_law.specs.core_events.Good.{SeatLaw}
+use Rattle.claim_law.specs.core_events.Runs.{Core, HasNullFields, view_at}
+use Rattle.claim_law.specs.core_events.Shows.{shows}
+use Rattle.claim_law.specs.core_events.Words.{cell_at, field_at, slot_in}
+use Rattle.deleter.specs.counter_word.Words.{has_help, value}
+use Rattle.claim_law.specs.core_law.Sound.{Sound}
+use Rattle.claim_law.proofs.Below.core_law.Kit.{below_none, entry_none, slot_eq, times_none}
+use Rattle.claim_law.proofs.Below.core_law.Parts.{sound_good}
+use Rattle.claim_law.proofs.Below.core_law.Bridge.{shown_past, shown_slot, shown_stage, total_zero}
 use Rattle.slot_store.specs.Leftovers.{RefersTo}
 
 below_find : (n : ℕ) (f : ℕ → ℕ) → 0 < sum_below n f → (i : ℕ) × (i < n) × (0 < f i)

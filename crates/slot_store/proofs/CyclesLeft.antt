@@ -3,26 +3,26 @@ use Rattle.std.proofs.Common.{◌≡◌, ℕ, zero, suc, ◌+◌, ◌-◌, ◌<�
 use Rattle.std.specs.Prelude.{◌==◌, Option, Some, None, slice_index}
 use Rattle.std.specs.Option.{option_map}
 use Rattle.std.proofs.lemmas.Bool.Decides.{nat_tests}
-use Rattle.plain_state.specs.declared.slot.Kind.{Kind}
-use Rattle.plain_state.specs.declared.slot.Kind.TheVariants.{Strong, Weak, Disposal}
-use Rattle.plain_state.specs.declared.slot.SlotId.{SlotId}
-use Rattle.plain_state.specs.Lists.{Entry, entry_times, times}
-use Rattle.plain_state.specs.declared.slot.Stage.TheVariants.{Live}
-use Rattle.plain_state.specs.State.{Plain, stage_at}
-use Rattle.core_events.specs.declared.shape.Shape.{Shape}
-use Rattle.core_events.specs.declared.view.CoreView.{CoreView}
-use Rattle.core_events.specs.Runs.{Core, view_at}
-use Rattle.core_events.specs.Shows.{shows}
-use Rattle.core_events.specs.Views.{snapshots}
-use Rattle.core_events.specs.Words.{cell_at, slot_in}
-use Rattle.core_law.proofs.Each.{get_each}
-use Rattle.core_law.proofs.Kit.{entry_cons, entry_none, entry_one, kind_one, one_same}
-use Rattle.domain_rule.specs.declared.view.Whole.{Whole}
-use Rattle.domain_rule.specs.Views.{core_in}
-use Rattle.acquire_retire.specs.Domains.{DomainState}
-use Rattle.acquire_retire.specs.Seats.{SeatState}
-use Rattle.acquire_retire.specs.Wholes.{known_core}
-use Rattle.control_word.specs.Resting.{IsAtRest}
+use Rattle.protocol_pairs.specs.plain_state.declared.slot.Kind.{Kind}
+use Rattle.protocol_pairs.specs.plain_state.declared.slot.Kind.TheVariants.{Strong, Weak, Disposal}
+use Rattle.protocol_pairs.specs.plain_state.declared.slot.SlotId.{SlotId}
+use Rattle.protocol_pairs.specs.plain_state.Lists.{Entry, entry_times, times}
+use Rattle.protocol_pairs.specs.plain_state.declared.slot.Stage.TheVariants.{Live}
+use Rattle.protocol_pairs.specs.plain_state.State.{Plain, stage_at}
+use Rattle.claim_law.specs.core_events.declared.shape.Shape.{Shape}
+use Rattle.claim_law.specs.core_events.declared.view.CoreView.{CoreView}
+use Rattle.claim_law.specs.core_events.Runs.{Core, view_at}
+use Rattle.claim_law.specs.core_events.Shows.{shows}
+use Rattle.claim_law.specs.core_events.Views.{snapshots}
+use Rattle.claim_law.specs.core_events.Words.{cell_at, slot_in}
+use Rattle.claim_law.proofs.Below.core_law.Each.{get_each}
+use Rattle.claim_law.proofs.Below.core_law.Kit.{entry_cons, entry_none, entry_one, kind_one, one_same}
+use Rattle.retiring_stores.specs.domain_rule.declared.view.Whole.{Whole}
+use Rattle.retiring_stores.specs.domain_rule.Views.{core_in}
+use Rattle.retiring_stores.specs.acquire_retire.Domains.{DomainState}
+use Rattle.retiring_stores.specs.acquire_retire.Seats.{SeatState}
+use Rattle.retiring_stores.specs.acquire_retire.Wholes.{known_core}
+use Rattle.retiring_stores.specs.control_word.Resting.{IsAtRest}
 use Rattle.slot_store.specs.Leftovers.{HasNullCells, IsQuiet, LeavesCycles, RefersTo}
 use Rattle.slot_store.proofs.Cycles.{live_referred}
 use Rattle.slot_store.proofs.Lasting.{Lasts}

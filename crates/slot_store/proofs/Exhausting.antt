@@ -1,25 +1,25 @@
 -- A call that finds each slot taken shows that more makes were given than there are slots.
 use Rattle.std.proofs.Common.{◌≡◌, inl, inr, ⊎_elim, ℕ, ◌<◌, List, [], ◌∷◌, ◌++◌, refl, ap, sym, ◌∙◌, subst, arith}
-use Rattle.plain_state.specs.declared.slot.SlotId.{SlotId}
-use Rattle.core_events.specs.declared.act.Act.{Act}
-use Rattle.core_events.specs.declared.act.Act.TheVariants as act
-use Rattle.core_events.specs.declared.act.Event.{Event}
-use Rattle.core_events.specs.declared.outcome.Outcome.{Outcome}
-use Rattle.core_events.specs.declared.outcome.Outcome.TheVariants as outcome
-use Rattle.core_events.specs.declared.shape.Shape.{Shape}
-use Rattle.core_events.specs.declared.view.CoreView.{CoreView}
-use Rattle.core_events.specs.declared.view.Move.{Move}
-use Rattle.core_events.specs.Runs.{AreTerms, Core, History, IsShape, after, view_at}
-use Rattle.core_events.specs.Steps.{HasMake}
-use Rattle.core_events.specs.Views.{Terms}
+use Rattle.protocol_pairs.specs.plain_state.declared.slot.SlotId.{SlotId}
+use Rattle.claim_law.specs.core_events.declared.act.Act.{Act}
+use Rattle.claim_law.specs.core_events.declared.act.Act.TheVariants as act
+use Rattle.claim_law.specs.core_events.declared.act.Event.{Event}
+use Rattle.claim_law.specs.core_events.declared.outcome.Outcome.{Outcome}
+use Rattle.claim_law.specs.core_events.declared.outcome.Outcome.TheVariants as outcome
+use Rattle.claim_law.specs.core_events.declared.shape.Shape.{Shape}
+use Rattle.claim_law.specs.core_events.declared.view.CoreView.{CoreView}
+use Rattle.claim_law.specs.core_events.declared.view.Move.{Move}
+use Rattle.claim_law.specs.core_events.Runs.{AreTerms, Core, History, IsShape, after, view_at}
+use Rattle.claim_law.specs.core_events.Steps.{HasMake}
+use Rattle.claim_law.specs.core_events.Views.{Terms}
 use Rattle.claim_law.specs.Claims.{ShowsTaken, makes_given}
 use Rattle.claim_law.proofs.Taken.{taken_slots_were_made}
-use Rattle.acquire_retire.specs.Calls.{IsSameView, Steps, same_view}
-use Rattle.acquire_retire.specs.Collecting.{Walks, move}
-use Rattle.acquire_retire.specs.Domains.{DomainState}
-use Rattle.acquire_retire.specs.Seats.{SeatState}
-use Rattle.control_word.specs.Resting.{IsAtRest}
-use Rattle.control_word.proofs.Finding.{seat_there}
+use Rattle.retiring_stores.specs.acquire_retire.Calls.{IsSameView, Steps, same_view}
+use Rattle.retiring_stores.specs.acquire_retire.Collecting.{Walks, move}
+use Rattle.retiring_stores.specs.acquire_retire.Domains.{DomainState}
+use Rattle.retiring_stores.specs.acquire_retire.Seats.{SeatState}
+use Rattle.retiring_stores.specs.control_word.Resting.{IsAtRest}
+use Rattle.retiring_stores.proofs.Below.control_word.Finding.{seat_there}
 use Rattle.slot_store.specs.Searching.{IsShownTaken, Misses, Try, taken_by}
 
 -- a seat of a state that has a history has this view

@@ -3,33 +3,33 @@ use Rattle.std.proofs.Common.{◌≡◌, ◌≢◌, ℕ, suc, ◌+◌, ◌<◌, 
 use Rattle.std.specs.Prelude.{Option, slice_index}
 use Rattle.std.proofs.lemmas.Bool.Decides.{nat_tests}
 use Rattle.std.proofs.lemmas.List.{length-set}
-use Rattle.plain_state.specs.declared.act.PlainAct.TheVariants as plain
-use Rattle.plain_state.specs.declared.slot.SlotId.{SlotId}
-use Rattle.plain_state.specs.Lists.{is_slot}
-use Rattle.plain_protocol.specs.Owns.{HasSlot, Object}
-use Rattle.core_events.specs.declared.act.Act.{Act}
-use Rattle.core_events.specs.declared.act.Act.TheVariants as act
-use Rattle.core_events.specs.declared.outcome.Outcome.{Outcome}
-use Rattle.core_events.specs.declared.outcome.Outcome.TheVariants as outcome
-use Rattle.core_events.specs.declared.view.CoreView.{CoreView}
-use Rattle.core_events.specs.declared.view.Move.{Move}
-use Rattle.core_events.specs.declared.view.Phase.TheVariants as phase
-use Rattle.core_events.specs.Shows.{show_seat}
-use Rattle.core_events.specs.ShownSteps.{on_slot}
-use Rattle.core_events.specs.Views.{slot_of}
-use Rattle.core_events.specs.Words.{each_from}
-use Rattle.core_law.proofs.Lists.{each_push}
-use Rattle.domain_rule.specs.Told.{changed_object}
-use Rattle.domain_rule.specs.Views.{object_in}
-use Rattle.domain_rule.proofs.Others.{fills_has}
-use Rattle.acquire_retire.specs.Calls.{IsSameView, IsOf, Steps, same_view}
-use Rattle.acquire_retire.specs.Collecting.{move}
-use Rattle.acquire_retire.specs.Domains.{DomainState}
-use Rattle.acquire_retire.specs.Seats.{SeatState}
-use Rattle.acquire_retire.proofs.Images.{all_each}
-use Rattle.acquire_retire.proofs.Makes.{fill_more}
-use Rattle.control_word.specs.Moves.{Becomes}
-use Rattle.control_word.proofs.Becoming.{bare, more_steps, one_step}
+use Rattle.protocol_pairs.specs.plain_state.declared.act.PlainAct.TheVariants as plain
+use Rattle.protocol_pairs.specs.plain_state.declared.slot.SlotId.{SlotId}
+use Rattle.protocol_pairs.specs.plain_state.Lists.{is_slot}
+use Rattle.protocol_pairs.specs.plain_protocol.Owns.{HasSlot, Object}
+use Rattle.claim_law.specs.core_events.declared.act.Act.{Act}
+use Rattle.claim_law.specs.core_events.declared.act.Act.TheVariants as act
+use Rattle.claim_law.specs.core_events.declared.outcome.Outcome.{Outcome}
+use Rattle.claim_law.specs.core_events.declared.outcome.Outcome.TheVariants as outcome
+use Rattle.claim_law.specs.core_events.declared.view.CoreView.{CoreView}
+use Rattle.claim_law.specs.core_events.declared.view.Move.{Move}
+use Rattle.claim_law.specs.core_events.declared.view.Phase.TheVariants as phase
+use Rattle.claim_law.specs.core_events.Shows.{show_seat}
+use Rattle.claim_law.specs.core_events.ShownSteps.{on_slot}
+use Rattle.claim_law.specs.core_events.Views.{slot_of}
+use Rattle.claim_law.specs.core_events.Words.{each_from}
+use Rattle.claim_law.proofs.Below.core_law.Lists.{each_push}
+use Rattle.retiring_stores.specs.domain_rule.Told.{changed_object}
+use Rattle.retiring_stores.specs.domain_rule.Views.{object_in}
+use Rattle.retiring_stores.proofs.Below.domain_rule.Others.{fills_has}
+use Rattle.retiring_stores.specs.acquire_retire.Calls.{IsSameView, IsOf, Steps, same_view}
+use Rattle.retiring_stores.specs.acquire_retire.Collecting.{move}
+use Rattle.retiring_stores.specs.acquire_retire.Domains.{DomainState}
+use Rattle.retiring_stores.specs.acquire_retire.Seats.{SeatState}
+use Rattle.retiring_stores.proofs.Below.acquire_retire.Images.{all_each}
+use Rattle.retiring_stores.proofs.Below.acquire_retire.Makes.{fill_more}
+use Rattle.retiring_stores.specs.control_word.Moves.{Becomes}
+use Rattle.retiring_stores.proofs.Below.control_word.Becoming.{bare, more_steps, one_step}
 use Rattle.slot_store.specs.Calls.{Fills}
 use Rattle.slot_store.proofs.Tries.{append_nil}
 

@@ -3,33 +3,33 @@
 use Rattle.std.proofs.Common.{◌≡◌, ◌⊎◌, inl, inr, ⊎_elim, ℕ, zero, suc, ◌+◌, ◌<◌, ◌≤◌, List, [], ◌∷◌, ◌++◌, refl, ap, sym, ◌∙◌, subst, arith}
 use Rattle.std.specs.Prelude.{IsSome, flat_map, slice_index}
 use Rattle.std.proofs.lemmas.Bool.Decides.{nat_tests}
-use Rattle.plain_state.specs.declared.act.PlainAct.{PlainAct}
-use Rattle.plain_state.specs.declared.slot.SlotId.{SlotId}
-use Rattle.plain_state.specs.State.{Plain}
-use Rattle.plain_protocol.specs.Owns.{HasSlot, Object, OwnPart}
-use Rattle.core_events.specs.declared.act.Act.{Act}
-use Rattle.core_events.specs.declared.act.Act.TheVariants as act
-use Rattle.core_events.specs.declared.outcome.Outcome.{Outcome}
-use Rattle.core_events.specs.declared.outcome.Outcome.TheVariants as outcome
-use Rattle.core_events.specs.declared.view.Move.{Move}
-use Rattle.core_events.specs.Counts.{stage}
-use Rattle.core_events.specs.declared.view.CoreView.{CoreView}
-use Rattle.core_events.specs.Good.{SeatLaw}
-use Rattle.core_events.specs.Runs.{Core, IsShape, after}
-use Rattle.core_events.specs.Shows.{show_seat, shows}
-use Rattle.core_events.specs.Words.{each_from}
-use Rattle.core_law.specs.Sound.{Sound}
-use Rattle.core_promises.specs.Destroyed.{destroys, standing}
-use Rattle.domain_rule.specs.Rule.{IsTrueOf}
-use Rattle.domain_rule.proofs.Objects.{object_at}
-use Rattle.acquire_retire.specs.declared.payment.Payment.{Payment}
-use Rattle.acquire_retire.specs.declared.payment.Payment.TheVariants as payment
-use Rattle.acquire_retire.specs.Calls.{Steps}
-use Rattle.acquire_retire.specs.Collecting.{Walks, move, paid_by, read_by, scanned_by}
-use Rattle.acquire_retire.specs.Domains.{DomainState}
-use Rattle.acquire_retire.specs.Seats.{SeatState}
-use Rattle.acquire_retire.specs.Wholes.{known_core}
-use Rattle.control_word.proofs.Finding.{seat_there, sound_before}
+use Rattle.protocol_pairs.specs.plain_state.declared.act.PlainAct.{PlainAct}
+use Rattle.protocol_pairs.specs.plain_state.declared.slot.SlotId.{SlotId}
+use Rattle.protocol_pairs.specs.plain_state.State.{Plain}
+use Rattle.protocol_pairs.specs.plain_protocol.Owns.{HasSlot, Object, OwnPart}
+use Rattle.claim_law.specs.core_events.declared.act.Act.{Act}
+use Rattle.claim_law.specs.core_events.declared.act.Act.TheVariants as act
+use Rattle.claim_law.specs.core_events.declared.outcome.Outcome.{Outcome}
+use Rattle.claim_law.specs.core_events.declared.outcome.Outcome.TheVariants as outcome
+use Rattle.claim_law.specs.core_events.declared.view.Move.{Move}
+use Rattle.claim_law.specs.core_events.Counts.{stage}
+use Rattle.claim_law.specs.core_events.declared.view.CoreView.{CoreView}
+use Rattle.claim_law.specs.core_events.Good.{SeatLaw}
+use Rattle.claim_law.specs.core_events.Runs.{Core, IsShape, after}
+use Rattle.claim_law.specs.core_events.Shows.{show_seat, shows}
+use Rattle.claim_law.specs.core_events.Words.{each_from}
+use Rattle.claim_law.specs.core_law.Sound.{Sound}
+use Rattle.claim_law.specs.core_promises.Destroyed.{destroys, standing}
+use Rattle.retiring_stores.specs.domain_rule.Rule.{IsTrueOf}
+use Rattle.retiring_stores.proofs.Below.domain_rule.Objects.{object_at}
+use Rattle.retiring_stores.specs.acquire_retire.declared.payment.Payment.{Payment}
+use Rattle.retiring_stores.specs.acquire_retire.declared.payment.Payment.TheVariants as payment
+use Rattle.retiring_stores.specs.acquire_retire.Calls.{Steps}
+use Rattle.retiring_stores.specs.acquire_retire.Collecting.{Walks, move, paid_by, read_by, scanned_by}
+use Rattle.retiring_stores.specs.acquire_retire.Domains.{DomainState}
+use Rattle.retiring_stores.specs.acquire_retire.Seats.{SeatState}
+use Rattle.retiring_stores.specs.acquire_retire.Wholes.{known_core}
+use Rattle.retiring_stores.proofs.Below.control_word.Finding.{seat_there, sound_before}
 use Rattle.retiring_stores.specs.Scanning.{Collected}
 use Rattle.slot_store.specs.Reaping.{KnowsBoth, seen_by}
 use Rattle.slot_store.specs.Settling.{objects_known}

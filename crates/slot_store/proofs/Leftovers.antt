@@ -1,19 +1,19 @@
 -- What is left after a collect that ejected nothing, made by a seat that is alone.
 use Rattle.std.proofs.Common.{◌≡◌, ℕ, ◌≤◌, List, ap, sym, ◌∙◌, arith}
 use Rattle.std.specs.Prelude.{IsSome}
-use Rattle.plain_state.specs.declared.slot.Kind.{Kind}
-use Rattle.plain_state.specs.declared.slot.Kind.TheVariants.{Disposal}
-use Rattle.plain_state.specs.declared.slot.SlotId.{SlotId}
-use Rattle.plain_state.specs.Ejection.{kept}
-use Rattle.plain_state.specs.Lists.{entry_times}
-use Rattle.plain_state.proofs.Ejections.{kept_times}
-use Rattle.announce_slots.specs.Seen.{announced_in}
-use Rattle.core_events.specs.declared.view.CoreView.{CoreView}
-use Rattle.core_events.specs.Views.{snapshots, valid_of}
-use Rattle.acquire_retire.specs.declared.payment.Work.{Work}
-use Rattle.acquire_retire.specs.Domains.{DomainState}
-use Rattle.acquire_retire.specs.Seats.{SeatState}
-use Rattle.control_word.specs.Resting.{IsAtRest}
+use Rattle.protocol_pairs.specs.plain_state.declared.slot.Kind.{Kind}
+use Rattle.protocol_pairs.specs.plain_state.declared.slot.Kind.TheVariants.{Disposal}
+use Rattle.protocol_pairs.specs.plain_state.declared.slot.SlotId.{SlotId}
+use Rattle.protocol_pairs.specs.plain_state.Ejection.{kept}
+use Rattle.protocol_pairs.specs.plain_state.Lists.{entry_times}
+use Rattle.deleter.proofs.Below.plain_state.Ejections.{kept_times}
+use Rattle.claim_law.specs.announce_slots.Seen.{announced_in}
+use Rattle.claim_law.specs.core_events.declared.view.CoreView.{CoreView}
+use Rattle.claim_law.specs.core_events.Views.{snapshots, valid_of}
+use Rattle.retiring_stores.specs.acquire_retire.declared.payment.Work.{Work}
+use Rattle.retiring_stores.specs.acquire_retire.Domains.{DomainState}
+use Rattle.retiring_stores.specs.acquire_retire.Seats.{SeatState}
+use Rattle.retiring_stores.specs.control_word.Resting.{IsAtRest}
 use Rattle.slot_store.specs.Leftovers.{IsQuiet}
 use Rattle.slot_store.specs.Settling.{Quiets}
 use Rattle.slot_store.proofs.OwnNotes.{own_times}

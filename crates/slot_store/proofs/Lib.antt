@@ -1,3 +1,4 @@
+pub mod Below
 pub mod Telling
 pub mod Seeing
 pub mod Tries
@@ -8,7 +9,6 @@ pub mod Exhausting
 pub mod Filling
 pub mod Beginning
 pub mod Starting
-pub mod Holding
 pub mod Passing
 pub mod SeeingAll
 pub mod Destroying
@@ -27,5 +27,4 @@ pub mod Numbering
 pub mod Rescanning
 pub mod Spending
 pub mod Settles
-pub mod Chaining
 pub mod Sparing

@@ -3,40 +3,40 @@ use Rattle.std.proofs.Common.{◌≡◌, ⊎_elim, ℕ, zero, suc, ◌+◌, ◌<
 use Rattle.std.specs.Prelude.{Option, None, Some, IsSome}
 use Rattle.std.specs.Option.{option_map}
 use Rattle.std.proofs.lemmas.Bool.{cases_eq}
-use Rattle.plain_state.specs.declared.act.PlainAct.{PlainAct}
-use Rattle.plain_state.specs.declared.slot.PlainSlot.{PlainSlot}
-use Rattle.plain_state.specs.declared.slot.SlotId.{SlotId}
-use Rattle.plain_state.specs.declared.slot.Stage.{Stage}
-use Rattle.plain_state.specs.declared.slot.Stage.TheVariants.{Free, Blank, Live, Ended, Husk}
-use Rattle.plain_state.specs.State.{Plain}
-use Rattle.plain_protocol.specs.Owns.{Object, OwnPart}
-use Rattle.core_events.specs.declared.act.Act.{Act}
-use Rattle.core_events.specs.declared.act.Act.TheVariants as act
-use Rattle.core_events.specs.declared.act.Event.{Event}
-use Rattle.core_events.specs.declared.shape.Shape.{Shape}
-use Rattle.core_events.specs.declared.view.CoreView.{CoreView}
-use Rattle.core_events.specs.declared.view.Phase.TheVariants as phase
-use Rattle.core_events.specs.Counts.{stage, sum_below}
-use Rattle.core_events.specs.Runs.{Core, after, found, view_at}
-use Rattle.core_events.specs.Shows.{show_slot, shows}
-use Rattle.core_events.specs.ShownSteps.{shown_act, shown_number}
-use Rattle.core_events.specs.Steps.{May}
-use Rattle.core_events.specs.Views.{Terms}
-use Rattle.core_law.proofs.Each.{length_each}
-use Rattle.core_law.specs.Sound.{Sound}
-use Rattle.core_law.proofs.Always.{history_sound}
-use Rattle.core_promises.specs.Destroyed.{destroys, standing}
-use Rattle.core_promises.proofs.Destroys.{destroyed_once}
-use Rattle.core_law.proofs.Bridge.{shown_slot}
-use Rattle.core_law.proofs.Events.{event_shows}
-use Rattle.domain_rule.specs.declared.view.SeatView.{SeatView}
-use Rattle.domain_rule.specs.declared.view.Whole.{Whole}
-use Rattle.domain_rule.specs.Told.{Told}
-use Rattle.domain_rule.specs.Views.{core_in, whole_of}
-use Rattle.domain_rule.proofs.Acts.{act_leaves}
-use Rattle.domain_rule.proofs.Objects.{object_at, object_changes}
-use Rattle.acquire_retire.specs.Wholes.{core_known, known_core}
-use Rattle.control_word.proofs.Finding.{sound_before}
+use Rattle.protocol_pairs.specs.plain_state.declared.act.PlainAct.{PlainAct}
+use Rattle.protocol_pairs.specs.plain_state.declared.slot.PlainSlot.{PlainSlot}
+use Rattle.protocol_pairs.specs.plain_state.declared.slot.SlotId.{SlotId}
+use Rattle.protocol_pairs.specs.plain_state.declared.slot.Stage.{Stage}
+use Rattle.protocol_pairs.specs.plain_state.declared.slot.Stage.TheVariants.{Free, Blank, Live, Ended, Husk}
+use Rattle.protocol_pairs.specs.plain_state.State.{Plain}
+use Rattle.protocol_pairs.specs.plain_protocol.Owns.{Object, OwnPart}
+use Rattle.claim_law.specs.core_events.declared.act.Act.{Act}
+use Rattle.claim_law.specs.core_events.declared.act.Act.TheVariants as act
+use Rattle.claim_law.specs.core_events.declared.act.Event.{Event}
+use Rattle.claim_law.specs.core_events.declared.shape.Shape.{Shape}
+use Rattle.claim_law.specs.core_events.declared.view.CoreView.{CoreView}
+use Rattle.claim_law.specs.core_events.declared.view.Phase.TheVariants as phase
+use Rattle.claim_law.specs.core_events.Counts.{stage, sum_below}
+use Rattle.claim_law.specs.core_events.Runs.{Core, after, found, view_at}
+use Rattle.claim_law.specs.core_events.Shows.{show_slot, shows}
+use Rattle.claim_law.specs.core_events.ShownSteps.{shown_act, shown_number}
+use Rattle.claim_law.specs.core_events.Steps.{May}
+use Rattle.claim_law.specs.core_events.Views.{Terms}
+use Rattle.claim_law.proofs.Below.core_law.Each.{length_each}
+use Rattle.claim_law.specs.core_law.Sound.{Sound}
+use Rattle.claim_law.proofs.Below.core_law.Always.{history_sound}
+use Rattle.claim_law.specs.core_promises.Destroyed.{destroys, standing}
+use Rattle.claim_law.proofs.Below.core_promises.Destroys.{destroyed_once}
+use Rattle.claim_law.proofs.Below.core_law.Bridge.{shown_slot}
+use Rattle.claim_law.proofs.Below.core_law.Events.{event_shows}
+use Rattle.retiring_stores.specs.domain_rule.declared.view.SeatView.{SeatView}
+use Rattle.retiring_stores.specs.domain_rule.declared.view.Whole.{Whole}
+use Rattle.retiring_stores.specs.domain_rule.Told.{Told}
+use Rattle.retiring_stores.specs.domain_rule.Views.{core_in, whole_of}
+use Rattle.retiring_stores.proofs.Below.domain_rule.Acts.{act_leaves}
+use Rattle.retiring_stores.proofs.Below.domain_rule.Objects.{object_at, object_changes}
+use Rattle.retiring_stores.specs.acquire_retire.Wholes.{core_known, known_core}
+use Rattle.retiring_stores.proofs.Below.control_word.Finding.{sound_before}
 
 pub standing_most : (g : Stage) → standing g ≤ 1
 standing_most Free = omega arith

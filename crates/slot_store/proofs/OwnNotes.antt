@@ -3,31 +3,31 @@ use Rattle.std.proofs.Common.{◌≡◌, ◌≢◌, ⊎_elim, ℕ, suc, ◌+◌,
 use Rattle.std.specs.Prelude.{IsSome, slice_index}
 use Rattle.std.proofs.lemmas.Bool.{cases_eq, cases_lt}
 use Rattle.std.proofs.lemmas.List.{get_or_past, length-append}
-use Rattle.plain_state.specs.declared.slot.Kind.{Kind}
-use Rattle.plain_state.specs.declared.slot.Kind.TheVariants.{Strong, Weak, Disposal}
-use Rattle.plain_state.specs.declared.slot.SlotId.{SlotId}
-use Rattle.plain_state.specs.Lists.{entry_times}
-use Rattle.announce_slots.specs.Seen.{announced_in}
-use Rattle.announce_slots.specs.Words.{code}
-use Rattle.announce_slots.proofs.Counting.{seen_cons, seen_none, word_one, word_other, word_same}
-use Rattle.core_events.specs.declared.act.Act.TheVariants as act
-use Rattle.core_events.specs.declared.outcome.Outcome.{Outcome}
-use Rattle.core_events.specs.declared.shape.Shape.{Shape}
-use Rattle.core_events.specs.declared.view.CoreView.{CoreView}
-use Rattle.core_events.specs.declared.view.Move.{Move}
-use Rattle.core_events.specs.declared.view.Note.{Note}
-use Rattle.core_events.specs.declared.view.Note.TheVariants as note
-use Rattle.core_events.specs.Good.{SeatLaw, word_of_note}
-use Rattle.core_events.specs.Runs.{view_at}
-use Rattle.core_events.specs.Steps.{is_last, scanned}
-use Rattle.core_events.specs.Views.{note_of, valid_of}
-use Rattle.core_law.proofs.Kit.{entry_cons, entry_one, one_same}
-use Rattle.acquire_retire.specs.Calls.{IsSameView, Steps, same_view}
-use Rattle.acquire_retire.specs.Collecting.{Walks, scanned_by}
-use Rattle.acquire_retire.specs.Domains.{DomainState}
-use Rattle.acquire_retire.specs.Seats.{SeatState}
-use Rattle.control_word.specs.Resting.{IsSettled}
-use Rattle.control_word.proofs.Finding.{seat_there, sound_before}
+use Rattle.protocol_pairs.specs.plain_state.declared.slot.Kind.{Kind}
+use Rattle.protocol_pairs.specs.plain_state.declared.slot.Kind.TheVariants.{Strong, Weak, Disposal}
+use Rattle.protocol_pairs.specs.plain_state.declared.slot.SlotId.{SlotId}
+use Rattle.protocol_pairs.specs.plain_state.Lists.{entry_times}
+use Rattle.claim_law.specs.announce_slots.Seen.{announced_in}
+use Rattle.claim_law.specs.announce_slots.Words.{code}
+use Rattle.claim_law.proofs.Below.announce_slots.Counting.{seen_cons, seen_none, word_one, word_other, word_same}
+use Rattle.claim_law.specs.core_events.declared.act.Act.TheVariants as act
+use Rattle.claim_law.specs.core_events.declared.outcome.Outcome.{Outcome}
+use Rattle.claim_law.specs.core_events.declared.shape.Shape.{Shape}
+use Rattle.claim_law.specs.core_events.declared.view.CoreView.{CoreView}
+use Rattle.claim_law.specs.core_events.declared.view.Move.{Move}
+use Rattle.claim_law.specs.core_events.declared.view.Note.{Note}
+use Rattle.claim_law.specs.core_events.declared.view.Note.TheVariants as note
+use Rattle.claim_law.specs.core_events.Good.{SeatLaw, word_of_note}
+use Rattle.claim_law.specs.core_events.Runs.{view_at}
+use Rattle.claim_law.specs.core_events.Steps.{is_last, scanned}
+use Rattle.claim_law.specs.core_events.Views.{note_of, valid_of}
+use Rattle.claim_law.proofs.Below.core_law.Kit.{entry_cons, entry_one, one_same}
+use Rattle.retiring_stores.specs.acquire_retire.Calls.{IsSameView, Steps, same_view}
+use Rattle.retiring_stores.specs.acquire_retire.Collecting.{Walks, scanned_by}
+use Rattle.retiring_stores.specs.acquire_retire.Domains.{DomainState}
+use Rattle.retiring_stores.specs.acquire_retire.Seats.{SeatState}
+use Rattle.retiring_stores.specs.control_word.Resting.{IsSettled}
+use Rattle.retiring_stores.proofs.Below.control_word.Finding.{seat_there, sound_before}
 use Rattle.slot_store.proofs.Objects.{known_still, some_value}
 use Rattle.slot_store.proofs.Ripening.{split_read, word_read}
 

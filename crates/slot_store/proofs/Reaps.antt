@@ -1,13 +1,13 @@
 -- The steps of a reap, put together.
 use Rattle.std.proofs.Common.{◌≡◌, inl, inr, ℕ, List, ◌∷◌, refl, ap, sym, ◌∙◌, subst}
 use Rattle.std.specs.Prelude.{Some}
-use Rattle.plain_state.specs.declared.act.EventPlace.{EventPlace}
-use Rattle.plain_state.specs.declared.act.EventPlace.TheVariants.{Field, WeakField}
-use Rattle.plain_state.specs.declared.slot.SlotId.{SlotId}
-use Rattle.domain_rule.specs.Views.{HasCleared, Stands}
-use Rattle.acquire_retire.specs.Collecting.{rest_of}
-use Rattle.acquire_retire.specs.Domains.{DomainState}
-use Rattle.acquire_retire.specs.Seats.{SeatState}
+use Rattle.protocol_pairs.specs.plain_state.declared.act.EventPlace.{EventPlace}
+use Rattle.protocol_pairs.specs.plain_state.declared.act.EventPlace.TheVariants.{Field, WeakField}
+use Rattle.protocol_pairs.specs.plain_state.declared.slot.SlotId.{SlotId}
+use Rattle.retiring_stores.specs.domain_rule.Views.{HasCleared, Stands}
+use Rattle.retiring_stores.specs.acquire_retire.Collecting.{rest_of}
+use Rattle.retiring_stores.specs.acquire_retire.Domains.{DomainState}
+use Rattle.retiring_stores.specs.acquire_retire.Seats.{SeatState}
 use Rattle.slot_store.specs.Reaping.{Clears, Destroys, FindsRipe, KnowsBoth, Passes, Reaps, SeesAll}
 use Rattle.slot_store.proofs.Passing.{passes_on}
 

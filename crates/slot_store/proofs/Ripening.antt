@@ -2,28 +2,28 @@
 use Rattle.std.proofs.Common.{◌≡◌, ◌≢◌, ◌⊎◌, inl, inr, ⊎_elim, ℕ, zero, suc, ◌<◌, ◌≤◌, Bool, true, false, List, [], ◌∷◌, ◌++◌, length, refl, ap, sym, ◌∙◌, subst, arith, append_assoc}
 use Rattle.std.proofs.lemmas.Bool.Decides.{nat_tests}
 use Rattle.std.specs.Prelude.{◌↔◌, Option, None, Some, IfSome, IsNone, slice_index_or, flat_map, if◌then◌else◌}
-use Rattle.plain_state.specs.declared.slot.Kind.TheVariants.{Disposal}
-use Rattle.plain_state.specs.declared.slot.SlotId.{SlotId}
-use Rattle.plain_state.specs.Ejection.{Announcements, ripened, ripens}
-use Rattle.plain_state.specs.Lists.{times}
-use Rattle.announce_slots.specs.Seen.{announced_in}
-use Rattle.core_events.specs.declared.act.Act.TheVariants as act
-use Rattle.core_events.specs.declared.outcome.Outcome.{Outcome}
-use Rattle.core_events.specs.declared.outcome.Outcome.TheVariants as outcome
-use Rattle.core_events.specs.declared.shape.Shape.{Shape}
-use Rattle.core_events.specs.declared.view.CoreView.{CoreView}
-use Rattle.core_events.specs.declared.view.Move.{Move}
-use Rattle.core_events.specs.declared.view.Phase.TheVariants as phase
-use Rattle.core_events.specs.Good.{SeatLaw}
-use Rattle.core_events.specs.Steps.{all_seen, is_last}
-use Rattle.core_law.proofs.Kit.{one_same, times_cons, times_none}
-use Rattle.core_law.proofs.Ripening.{ripened_times}
-use Rattle.acquire_retire.specs.Calls.{IsSameView, Steps, same_view}
-use Rattle.acquire_retire.specs.Collecting.{Walks, paid_by, scanned_by}
-use Rattle.acquire_retire.specs.Domains.{DomainState}
-use Rattle.acquire_retire.specs.Seats.{SeatState}
-use Rattle.control_word.specs.Resting.{IsAtRest}
-use Rattle.control_word.proofs.Finding.{seat_there, sound_before}
+use Rattle.protocol_pairs.specs.plain_state.declared.slot.Kind.TheVariants.{Disposal}
+use Rattle.protocol_pairs.specs.plain_state.declared.slot.SlotId.{SlotId}
+use Rattle.protocol_pairs.specs.plain_state.Ejection.{Announcements, ripened, ripens}
+use Rattle.protocol_pairs.specs.plain_state.Lists.{times}
+use Rattle.claim_law.specs.announce_slots.Seen.{announced_in}
+use Rattle.claim_law.specs.core_events.declared.act.Act.TheVariants as act
+use Rattle.claim_law.specs.core_events.declared.outcome.Outcome.{Outcome}
+use Rattle.claim_law.specs.core_events.declared.outcome.Outcome.TheVariants as outcome
+use Rattle.claim_law.specs.core_events.declared.shape.Shape.{Shape}
+use Rattle.claim_law.specs.core_events.declared.view.CoreView.{CoreView}
+use Rattle.claim_law.specs.core_events.declared.view.Move.{Move}
+use Rattle.claim_law.specs.core_events.declared.view.Phase.TheVariants as phase
+use Rattle.claim_law.specs.core_events.Good.{SeatLaw}
+use Rattle.claim_law.specs.core_events.Steps.{all_seen, is_last}
+use Rattle.claim_law.proofs.Below.core_law.Kit.{one_same, times_cons, times_none}
+use Rattle.claim_law.proofs.Below.core_law.Ripening.{ripened_times}
+use Rattle.retiring_stores.specs.acquire_retire.Calls.{IsSameView, Steps, same_view}
+use Rattle.retiring_stores.specs.acquire_retire.Collecting.{Walks, paid_by, scanned_by}
+use Rattle.retiring_stores.specs.acquire_retire.Domains.{DomainState}
+use Rattle.retiring_stores.specs.acquire_retire.Seats.{SeatState}
+use Rattle.retiring_stores.specs.control_word.Resting.{IsAtRest}
+use Rattle.retiring_stores.proofs.Below.control_word.Finding.{seat_there, sound_before}
 use Rattle.retiring_stores.specs.Scanning.{Collected}
 use Rattle.retiring_stores.proofs.Gathering.{pays_gather, walk_stays}
 use Rattle.slot_store.specs.Reaping.{FindsRipe, Waits}

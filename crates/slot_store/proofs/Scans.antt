@@ -1,17 +1,17 @@
 -- What a whole scan makes of the entries and slots of a seat, and what it reads.
 use Rattle.std.proofs.Common.{◌≡◌, ℕ, Bool, true, false, List, [], ◌∷◌, ◌++◌, length, refl, ap, sym, ◌∙◌, subst, append_assoc}
 use Rattle.std.specs.Prelude.{IsSome, flat_map, if◌then◌else◌}
-use Rattle.plain_state.specs.Ejection.{ejected, kept, ripened}
-use Rattle.announce_slots.specs.Seen.{announced_in}
-use Rattle.core_events.specs.declared.outcome.Outcome.TheVariants as outcome
-use Rattle.core_events.specs.declared.view.CoreView.{CoreView}
-use Rattle.core_events.specs.declared.view.Move.{Move}
-use Rattle.core_events.specs.Steps.{is_last}
-use Rattle.acquire_retire.specs.declared.payment.Payment.{Payment}
-use Rattle.acquire_retire.specs.Collecting.{Walks, paid_by, scanned_by}
-use Rattle.acquire_retire.specs.Domains.{DomainState}
-use Rattle.acquire_retire.specs.Seats.{SeatState}
-use Rattle.control_word.specs.Resting.{IsAtRest}
+use Rattle.protocol_pairs.specs.plain_state.Ejection.{ejected, kept, ripened}
+use Rattle.claim_law.specs.announce_slots.Seen.{announced_in}
+use Rattle.claim_law.specs.core_events.declared.outcome.Outcome.TheVariants as outcome
+use Rattle.claim_law.specs.core_events.declared.view.CoreView.{CoreView}
+use Rattle.claim_law.specs.core_events.declared.view.Move.{Move}
+use Rattle.claim_law.specs.core_events.Steps.{is_last}
+use Rattle.retiring_stores.specs.acquire_retire.declared.payment.Payment.{Payment}
+use Rattle.retiring_stores.specs.acquire_retire.Collecting.{Walks, paid_by, scanned_by}
+use Rattle.retiring_stores.specs.acquire_retire.Domains.{DomainState}
+use Rattle.retiring_stores.specs.acquire_retire.Seats.{SeatState}
+use Rattle.retiring_stores.specs.control_word.Resting.{IsAtRest}
 use Rattle.retiring_stores.specs.Scanning.{Collected}
 use Rattle.slot_store.proofs.OwnNotes.{AreOwn, own_scan}
 use Rattle.slot_store.proofs.Ripening.{collect_law, split_read, word_read}

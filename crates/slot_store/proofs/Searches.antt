@@ -3,20 +3,20 @@ use Rattle.std.proofs.Common.{◌≡◌, ◌≢◌, inl, inr, ⊎_elim, ℕ, ◌
 use Rattle.std.specs.Prelude.{◌==◌, if◌then◌else◌}
 use Rattle.std.proofs.lemmas.Bool.Decides.{nat_tests}
 use Rattle.std.proofs.lemmas.Nat.Bits.{bit_at-lt}
-use Rattle.plain_state.specs.declared.slot.SlotId.{SlotId}
-use Rattle.core_events.specs.declared.act.Act.TheVariants as act
-use Rattle.core_events.specs.declared.outcome.Outcome.{Outcome}
-use Rattle.core_events.specs.declared.outcome.Outcome.TheVariants as outcome
-use Rattle.core_events.specs.declared.view.CoreView.{CoreView}
-use Rattle.core_events.specs.Steps.{HasAdd, HasMake, May}
-use Rattle.core_events.specs.Words.{bit_in}
-use Rattle.core_law.proofs.Kit.{slot_eq}
-use Rattle.acquire_retire.specs.Calls.{IsSameView, Steps, same_view}
-use Rattle.acquire_retire.specs.Collecting.{move}
-use Rattle.acquire_retire.specs.Domains.{DomainState}
-use Rattle.acquire_retire.specs.Seats.{SeatState}
-use Rattle.control_word.specs.Resting.{IsAtRest}
-use Rattle.control_word.proofs.Becoming.{comes_more, rest_after}
+use Rattle.protocol_pairs.specs.plain_state.declared.slot.SlotId.{SlotId}
+use Rattle.claim_law.specs.core_events.declared.act.Act.TheVariants as act
+use Rattle.claim_law.specs.core_events.declared.outcome.Outcome.{Outcome}
+use Rattle.claim_law.specs.core_events.declared.outcome.Outcome.TheVariants as outcome
+use Rattle.claim_law.specs.core_events.declared.view.CoreView.{CoreView}
+use Rattle.claim_law.specs.core_events.Steps.{HasAdd, HasMake, May}
+use Rattle.claim_law.specs.core_events.Words.{bit_in}
+use Rattle.claim_law.proofs.Below.core_law.Kit.{slot_eq}
+use Rattle.retiring_stores.specs.acquire_retire.Calls.{IsSameView, Steps, same_view}
+use Rattle.retiring_stores.specs.acquire_retire.Collecting.{move}
+use Rattle.retiring_stores.specs.acquire_retire.Domains.{DomainState}
+use Rattle.retiring_stores.specs.acquire_retire.Seats.{SeatState}
+use Rattle.retiring_stores.specs.control_word.Resting.{IsAtRest}
+use Rattle.retiring_stores.proofs.Below.control_word.Becoming.{comes_more, rest_after}
 use Rattle.slot_store.specs.Searching.{AreInTurn, Claims, Goes, IsNext, IsShownTaken, Misses, Try, bits_of, latest, taken_by, with_bare}
 use Rattle.slot_store.specs.Turns.{IsAtTurn, newest}
 use Rattle.slot_store.proofs.Claims.{claim_missed, claim_won, comes_of, goes_nowhere, goes_of}

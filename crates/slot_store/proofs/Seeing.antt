@@ -1,26 +1,26 @@
 -- A step that reads a payload word of a slot that the seat holds.
 use Rattle.std.proofs.Common.{◌≡◌, ℕ, ◌+◌, ◌<◌, List, [], ◌∷◌, refl, ap, sym, ◌∙◌, subst, arith}
 use Rattle.std.specs.Prelude.{slice_index}
-use Rattle.plain_state.specs.declared.slot.PlainSlot.{PlainSlot}
-use Rattle.plain_state.specs.declared.slot.SlotId.{SlotId}
-use Rattle.plain_state.specs.State.{slot_at}
-use Rattle.plain_protocol.specs.Owns.{Object}
-use Rattle.core_events.specs.declared.act.Act.TheVariants as act
-use Rattle.core_events.specs.declared.outcome.Outcome.{Outcome}
-use Rattle.core_events.specs.declared.outcome.Outcome.TheVariants as outcome
-use Rattle.core_events.specs.Shows.{shows}
-use Rattle.core_events.specs.Views.{Holds}
-use Rattle.core_events.specs.Words.{payload_at}
-use Rattle.core_law.proofs.Each.{get_each}
-use Rattle.core_law.proofs.Bridge.{shown_slot}
-use Rattle.domain_rule.specs.Views.{object_in}
-use Rattle.acquire_retire.specs.Calls.{IsSameView, Steps, same_view}
-use Rattle.acquire_retire.specs.Collecting.{move}
-use Rattle.acquire_retire.specs.Domains.{DomainState}
-use Rattle.acquire_retire.specs.Seats.{SeatState}
-use Rattle.control_word.specs.Moves.{Becomes, KnowsStill}
-use Rattle.control_word.specs.Resting.{IsAtRest}
-use Rattle.control_word.proofs.Becoming.{knows_after, one_step, rest_after}
+use Rattle.protocol_pairs.specs.plain_state.declared.slot.PlainSlot.{PlainSlot}
+use Rattle.protocol_pairs.specs.plain_state.declared.slot.SlotId.{SlotId}
+use Rattle.protocol_pairs.specs.plain_state.State.{slot_at}
+use Rattle.protocol_pairs.specs.plain_protocol.Owns.{Object}
+use Rattle.claim_law.specs.core_events.declared.act.Act.TheVariants as act
+use Rattle.claim_law.specs.core_events.declared.outcome.Outcome.{Outcome}
+use Rattle.claim_law.specs.core_events.declared.outcome.Outcome.TheVariants as outcome
+use Rattle.claim_law.specs.core_events.Shows.{shows}
+use Rattle.claim_law.specs.core_events.Views.{Holds}
+use Rattle.claim_law.specs.core_events.Words.{payload_at}
+use Rattle.claim_law.proofs.Below.core_law.Each.{get_each}
+use Rattle.claim_law.proofs.Below.core_law.Bridge.{shown_slot}
+use Rattle.retiring_stores.specs.domain_rule.Views.{object_in}
+use Rattle.retiring_stores.specs.acquire_retire.Calls.{IsSameView, Steps, same_view}
+use Rattle.retiring_stores.specs.acquire_retire.Collecting.{move}
+use Rattle.retiring_stores.specs.acquire_retire.Domains.{DomainState}
+use Rattle.retiring_stores.specs.acquire_retire.Seats.{SeatState}
+use Rattle.retiring_stores.specs.control_word.Moves.{Becomes, KnowsStill}
+use Rattle.retiring_stores.specs.control_word.Resting.{IsAtRest}
+use Rattle.retiring_stores.proofs.Below.control_word.Becoming.{knows_after, one_step, rest_after}
 use Rattle.slot_store.specs.Calls.{SeesWord}
 use Rattle.slot_store.proofs.Telling.{holds_has, slot_there}
 

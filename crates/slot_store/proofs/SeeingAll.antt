@@ -4,36 +4,36 @@ use Rattle.std.specs.Prelude.{slice_index}
 use Rattle.std.proofs.lemmas.Bool.{cases_eq}
 use Rattle.std.proofs.lemmas.Bool.Decides.{nat_tests}
 use Rattle.std.proofs.lemmas.List.{get_or-set_other, get_or-set_same, length-set}
-use Rattle.plain_state.specs.declared.slot.PlainSlot.{PlainSlot}
-use Rattle.plain_state.specs.declared.slot.SlotId.{SlotId}
-use Rattle.plain_state.specs.Lists.{times}
-use Rattle.plain_state.specs.State.{stage_at}
-use Rattle.plain_state.specs.declared.slot.Stage.TheVariants.{Ended}
-use Rattle.plain_protocol.specs.Owns.{HasSlot, Object}
-use Rattle.core_events.specs.declared.act.Act.TheVariants as act
-use Rattle.core_events.specs.declared.outcome.Outcome.{Outcome}
-use Rattle.core_events.specs.declared.outcome.Outcome.TheVariants as outcome
-use Rattle.core_events.specs.declared.view.CoreView.{CoreView}
-use Rattle.core_events.specs.declared.view.Move.{Move}
-use Rattle.core_events.specs.Shows.{show_seat, shows}
-use Rattle.core_events.specs.Steps.{HasRoom, May}
-use Rattle.core_events.specs.Words.{each_from, payload_at}
-use Rattle.core_law.proofs.Each.{get_each}
-use Rattle.core_law.proofs.Kit.{total_at}
-use Rattle.core_law.proofs.Bridge.{shown_dying, shown_slot}
-use Rattle.core_law.proofs.Lawful.{shows_lawful}
-use Rattle.core_law.proofs.Lists.{each_push}
-use Rattle.domain_rule.specs.Views.{object_in}
-use Rattle.acquire_retire.specs.Calls.{IsSameView, Steps, same_view}
-use Rattle.acquire_retire.specs.Collecting.{move, rest_of}
-use Rattle.acquire_retire.specs.Domains.{DomainState}
-use Rattle.acquire_retire.specs.Seats.{SeatState}
-use Rattle.acquire_retire.proofs.Images.{all_each}
-use Rattle.control_word.specs.Resting.{IsAtRest}
-use Rattle.control_word.proofs.Becoming.{Comes, bare, comes_more, comes_one, rest_after}
+use Rattle.protocol_pairs.specs.plain_state.declared.slot.PlainSlot.{PlainSlot}
+use Rattle.protocol_pairs.specs.plain_state.declared.slot.SlotId.{SlotId}
+use Rattle.protocol_pairs.specs.plain_state.Lists.{times}
+use Rattle.protocol_pairs.specs.plain_state.State.{stage_at}
+use Rattle.protocol_pairs.specs.plain_state.declared.slot.Stage.TheVariants.{Ended}
+use Rattle.protocol_pairs.specs.plain_protocol.Owns.{HasSlot, Object}
+use Rattle.claim_law.specs.core_events.declared.act.Act.TheVariants as act
+use Rattle.claim_law.specs.core_events.declared.outcome.Outcome.{Outcome}
+use Rattle.claim_law.specs.core_events.declared.outcome.Outcome.TheVariants as outcome
+use Rattle.claim_law.specs.core_events.declared.view.CoreView.{CoreView}
+use Rattle.claim_law.specs.core_events.declared.view.Move.{Move}
+use Rattle.claim_law.specs.core_events.Shows.{show_seat, shows}
+use Rattle.claim_law.specs.core_events.Steps.{HasRoom, May}
+use Rattle.claim_law.specs.core_events.Words.{each_from, payload_at}
+use Rattle.claim_law.proofs.Below.core_law.Each.{get_each}
+use Rattle.claim_law.proofs.Below.core_law.Kit.{total_at}
+use Rattle.claim_law.proofs.Below.core_law.Bridge.{shown_dying, shown_slot}
+use Rattle.claim_law.proofs.Below.core_law.Lawful.{shows_lawful}
+use Rattle.claim_law.proofs.Below.core_law.Lists.{each_push}
+use Rattle.retiring_stores.specs.domain_rule.Views.{object_in}
+use Rattle.retiring_stores.specs.acquire_retire.Calls.{IsSameView, Steps, same_view}
+use Rattle.retiring_stores.specs.acquire_retire.Collecting.{move, rest_of}
+use Rattle.retiring_stores.specs.acquire_retire.Domains.{DomainState}
+use Rattle.retiring_stores.specs.acquire_retire.Seats.{SeatState}
+use Rattle.retiring_stores.proofs.Below.acquire_retire.Images.{all_each}
+use Rattle.retiring_stores.specs.control_word.Resting.{IsAtRest}
+use Rattle.retiring_stores.proofs.Below.control_word.Becoming.{Comes, bare, comes_more, comes_one, rest_after}
 use Rattle.slot_store.specs.Reaping.{Passes, SeesAll}
 use Rattle.slot_store.specs.Searching.{Goes}
-use Rattle.control_word.proofs.Finding.{sound_before}
+use Rattle.retiring_stores.proofs.Below.control_word.Finding.{sound_before}
 use Rattle.slot_store.proofs.Telling.{slot_there}
 use Rattle.slot_store.proofs.Claims.{comes_of, goes_nowhere, goes_of}
 

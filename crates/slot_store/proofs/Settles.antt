@@ -2,15 +2,15 @@
 use Rattle.std.proofs.Common.{◌≡◌, inl, inr, ⊎_elim, ℕ, ◌+◌, ◌*◌, ◌^◌, ◌<◌, ◌≤◌, List, [], ◌∷◌, length, refl, ap, ◌∙◌, arith}
 use Rattle.std.specs.Prelude.{Option, None, Some, IsSome, sum_by}
 use Rattle.std.proofs.lemmas.List.Sums.{sum_by-cons}
-use Rattle.core_events.specs.declared.view.CoreView.{CoreView}
-use Rattle.core_events.specs.Counts.{stage}
-use Rattle.core_events.specs.Steps.{HasRoom}
-use Rattle.domain_rule.specs.Views.{IsAlone}
-use Rattle.acquire_retire.specs.Collecting.{rest_of}
-use Rattle.acquire_retire.specs.Domains.{DomainState}
-use Rattle.acquire_retire.specs.Seats.{SeatState}
-use Rattle.acquire_retire.specs.Wholes.{known_core}
-use Rattle.control_word.specs.Resting.{IsAtRest}
+use Rattle.claim_law.specs.core_events.declared.view.CoreView.{CoreView}
+use Rattle.claim_law.specs.core_events.Counts.{stage}
+use Rattle.claim_law.specs.core_events.Steps.{HasRoom}
+use Rattle.retiring_stores.specs.domain_rule.Views.{IsAlone}
+use Rattle.retiring_stores.specs.acquire_retire.Collecting.{rest_of}
+use Rattle.retiring_stores.specs.acquire_retire.Domains.{DomainState}
+use Rattle.retiring_stores.specs.acquire_retire.Seats.{SeatState}
+use Rattle.retiring_stores.specs.acquire_retire.Wholes.{known_core}
+use Rattle.retiring_stores.specs.control_word.Resting.{IsAtRest}
 use Rattle.slot_store.specs.Leftovers.{IsQuiet, LeavesCycles}
 use Rattle.slot_store.specs.Reaping.{Answers, KnowsBoth, Reaps, Waits}
 use Rattle.slot_store.specs.Spending.{settle_most, steps_made}

@@ -1,21 +1,21 @@
 -- To make an object of a payload that a protocol doesn't own is foreign to it.
 use Rattle.std.proofs.Common.{◌≡◌, ℕ, Bool, true, List, ap, sym, subst}
 use Rattle.std.specs.Prelude.{Option, Some, None, if◌then◌else◌}
-use Rattle.plain_state.specs.declared.act.PlainAct.TheVariants as plain
-use Rattle.plain_state.specs.declared.slot.SlotId.{SlotId}
-use Rattle.plain_protocol.specs.Acts.{Owned}
-use Rattle.plain_protocol.specs.Owns.{Object, has_slot}
-use Rattle.core_events.specs.declared.act.Act.TheVariants as act
-use Rattle.core_events.specs.declared.view.CoreView.{CoreView}
-use Rattle.core_events.specs.declared.view.Phase.TheVariants as phase
-use Rattle.core_events.specs.Shows.{show_seat}
-use Rattle.core_events.specs.ShownSteps.{on_slot}
-use Rattle.core_events.specs.Views.{slot_of}
-use Rattle.domain_rule.specs.Views.{object_in, own_of}
-use Rattle.domain_rule.proofs.Others.{fills_has}
-use Rattle.acquire_retire.specs.Calls.{IsReady}
-use Rattle.acquire_retire.specs.Domains.{DomainState}
-use Rattle.acquire_retire.specs.Seats.{SeatState}
+use Rattle.protocol_pairs.specs.plain_state.declared.act.PlainAct.TheVariants as plain
+use Rattle.protocol_pairs.specs.plain_state.declared.slot.SlotId.{SlotId}
+use Rattle.protocol_pairs.specs.plain_protocol.Acts.{Owned}
+use Rattle.protocol_pairs.specs.plain_protocol.Owns.{Object, has_slot}
+use Rattle.claim_law.specs.core_events.declared.act.Act.TheVariants as act
+use Rattle.claim_law.specs.core_events.declared.view.CoreView.{CoreView}
+use Rattle.claim_law.specs.core_events.declared.view.Phase.TheVariants as phase
+use Rattle.claim_law.specs.core_events.Shows.{show_seat}
+use Rattle.claim_law.specs.core_events.ShownSteps.{on_slot}
+use Rattle.claim_law.specs.core_events.Views.{slot_of}
+use Rattle.retiring_stores.specs.domain_rule.Views.{object_in, own_of}
+use Rattle.retiring_stores.proofs.Below.domain_rule.Others.{fills_has}
+use Rattle.retiring_stores.specs.acquire_retire.Calls.{IsReady}
+use Rattle.retiring_stores.specs.acquire_retire.Domains.{DomainState}
+use Rattle.retiring_stores.specs.acquire_retire.Seats.{SeatState}
 use Rattle.protocol_pairs.specs.Spared.{HasOneOf, IsSpared, others}
 use Rattle.slot_store.specs.Calls.{Begins}
 

@@ -4,22 +4,22 @@ use Rattle.std.specs.Prelude.{None, IsSome}
 use Rattle.std.proofs.Math.Nat.{add-mul, mul-le-mul_right}
 use Rattle.std.proofs.lemmas.Bool.{cases_lt}
 use Rattle.std.proofs.lemmas.List.{get_or_past}
-use Rattle.plain_state.specs.declared.slot.SlotId.{SlotId}
-use Rattle.plain_state.specs.Lists.{times}
-use Rattle.core_events.specs.declared.view.CoreView.{CoreView}
-use Rattle.core_events.specs.Counts.{stage}
-use Rattle.core_events.specs.Runs.{Core, view_at}
-use Rattle.core_events.specs.Views.{no_view}
-use Rattle.core_events.specs.Words.{announcements}
-use Rattle.core_law.proofs.Kit.{below_at, one_same, times_cons, times_none, total_at}
-use Rattle.core_law.proofs.Steady.{named_in_range}
-use Rattle.core_promises.specs.Destroyed.{standing}
-use Rattle.core_law.proofs.Bridge.{shown_dying, shown_stage}
-use Rattle.core_law.proofs.Lawful.{shows_lawful}
-use Rattle.acquire_retire.specs.Domains.{DomainState}
-use Rattle.acquire_retire.specs.Seats.{SeatState}
-use Rattle.acquire_retire.specs.Wholes.{known_core}
-use Rattle.control_word.specs.Resting.{IsAtRest}
+use Rattle.protocol_pairs.specs.plain_state.declared.slot.SlotId.{SlotId}
+use Rattle.protocol_pairs.specs.plain_state.Lists.{times}
+use Rattle.claim_law.specs.core_events.declared.view.CoreView.{CoreView}
+use Rattle.claim_law.specs.core_events.Counts.{stage}
+use Rattle.claim_law.specs.core_events.Runs.{Core, view_at}
+use Rattle.claim_law.specs.core_events.Views.{no_view}
+use Rattle.claim_law.specs.core_events.Words.{announcements}
+use Rattle.claim_law.proofs.Below.core_law.Kit.{below_at, one_same, times_cons, times_none, total_at}
+use Rattle.claim_law.proofs.Below.core_law.Steady.{named_in_range}
+use Rattle.claim_law.specs.core_promises.Destroyed.{standing}
+use Rattle.claim_law.proofs.Below.core_law.Bridge.{shown_dying, shown_stage}
+use Rattle.claim_law.proofs.Below.core_law.Lawful.{shows_lawful}
+use Rattle.retiring_stores.specs.acquire_retire.Domains.{DomainState}
+use Rattle.retiring_stores.specs.acquire_retire.Seats.{SeatState}
+use Rattle.retiring_stores.specs.acquire_retire.Wholes.{known_core}
+use Rattle.retiring_stores.specs.control_word.Resting.{IsAtRest}
 use Rattle.retiring_stores.specs.Scanning.{Collected}
 use Rattle.slot_store.specs.Reaping.{Answers, Reaps, Waits}
 use Rattle.slot_store.specs.Settling.{GoesOn, Quiets, objects_known}

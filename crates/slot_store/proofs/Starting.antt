@@ -2,32 +2,32 @@
 use Rattle.std.proofs.Common.{◌≡◌, ◌≢◌, ℕ, ◌+◌, true, false, List, [], ◌∷◌, ◌++◌, refl, ap, sym, ◌∙◌, subst, arith, append_assoc}
 use Rattle.std.specs.Prelude.{Option}
 use Rattle.std.proofs.lemmas.Bool.Decides.{nat_tests}
-use Rattle.plain_state.specs.declared.act.PlainAct.{PlainAct}
-use Rattle.plain_state.specs.declared.act.PlainAct.TheVariants as plain
-use Rattle.plain_state.specs.declared.slot.SlotId.{SlotId}
-use Rattle.plain_state.specs.Lists.{is_slot}
-use Rattle.plain_state.specs.State.{Plain, slot_at}
-use Rattle.plain_protocol.specs.Owns.{HasSlot, Object, OwnPart}
-use Rattle.core_events.specs.declared.act.Act.TheVariants as act
-use Rattle.core_events.specs.declared.outcome.Outcome.{Outcome}
-use Rattle.core_events.specs.declared.outcome.Outcome.TheVariants as outcome
-use Rattle.core_events.specs.declared.view.CoreView.{CoreView}
-use Rattle.core_events.specs.declared.view.Move.{Move}
-use Rattle.core_events.specs.declared.view.Phase.{Phase}
-use Rattle.core_events.specs.declared.view.Phase.TheVariants as phase
-use Rattle.core_events.specs.Shows.{show_seat, shows}
-use Rattle.core_events.specs.ShownSteps.{on_slot}
-use Rattle.core_events.specs.Views.{alone, slot_of}
-use Rattle.domain_rule.specs.Told.{changed_object}
-use Rattle.domain_rule.specs.Views.{object_in}
-use Rattle.domain_rule.proofs.Others.{fills_has}
-use Rattle.acquire_retire.specs.Calls.{IsSameView, Steps, same_view}
-use Rattle.acquire_retire.specs.Collecting.{move}
-use Rattle.acquire_retire.specs.Domains.{DomainState}
-use Rattle.acquire_retire.specs.Seats.{SeatState}
-use Rattle.control_word.specs.Moves.{Becomes, KnowsStill}
-use Rattle.control_word.specs.Resting.{IsAtRest}
-use Rattle.control_word.proofs.Becoming.{bare, calling, one_step, rests_on, walks_table}
+use Rattle.protocol_pairs.specs.plain_state.declared.act.PlainAct.{PlainAct}
+use Rattle.protocol_pairs.specs.plain_state.declared.act.PlainAct.TheVariants as plain
+use Rattle.protocol_pairs.specs.plain_state.declared.slot.SlotId.{SlotId}
+use Rattle.protocol_pairs.specs.plain_state.Lists.{is_slot}
+use Rattle.protocol_pairs.specs.plain_state.State.{Plain, slot_at}
+use Rattle.protocol_pairs.specs.plain_protocol.Owns.{HasSlot, Object, OwnPart}
+use Rattle.claim_law.specs.core_events.declared.act.Act.TheVariants as act
+use Rattle.claim_law.specs.core_events.declared.outcome.Outcome.{Outcome}
+use Rattle.claim_law.specs.core_events.declared.outcome.Outcome.TheVariants as outcome
+use Rattle.claim_law.specs.core_events.declared.view.CoreView.{CoreView}
+use Rattle.claim_law.specs.core_events.declared.view.Move.{Move}
+use Rattle.claim_law.specs.core_events.declared.view.Phase.{Phase}
+use Rattle.claim_law.specs.core_events.declared.view.Phase.TheVariants as phase
+use Rattle.claim_law.specs.core_events.Shows.{show_seat, shows}
+use Rattle.claim_law.specs.core_events.ShownSteps.{on_slot}
+use Rattle.claim_law.specs.core_events.Views.{alone, slot_of}
+use Rattle.retiring_stores.specs.domain_rule.Told.{changed_object}
+use Rattle.retiring_stores.specs.domain_rule.Views.{object_in}
+use Rattle.retiring_stores.proofs.Below.domain_rule.Others.{fills_has}
+use Rattle.retiring_stores.specs.acquire_retire.Calls.{IsSameView, Steps, same_view}
+use Rattle.retiring_stores.specs.acquire_retire.Collecting.{move}
+use Rattle.retiring_stores.specs.acquire_retire.Domains.{DomainState}
+use Rattle.retiring_stores.specs.acquire_retire.Seats.{SeatState}
+use Rattle.retiring_stores.specs.control_word.Moves.{Becomes, KnowsStill}
+use Rattle.retiring_stores.specs.control_word.Resting.{IsAtRest}
+use Rattle.retiring_stores.proofs.Below.control_word.Becoming.{bare, calling, one_step, rests_on, walks_table}
 use Rattle.slot_store.specs.Calls.{Begins, Makes, begun_by, with_made}
 use Rattle.slot_store.proofs.Beginning.{has_while}
 

@@ -1,19 +1,19 @@
 -- What a step tells of the state that it was made in.
 use Rattle.std.proofs.Common.{ℕ, ◌<◌, List, arith, subst}
 use Rattle.std.proofs.lemmas.Bool.Decides.{nat_tests}
-use Rattle.plain_state.specs.declared.act.PlainAct.{PlainAct}
-use Rattle.plain_state.specs.declared.slot.SlotId.{SlotId}
-use Rattle.plain_state.specs.State.{Plain}
-use Rattle.plain_protocol.specs.Owns.{HasSlot, OwnPart}
-use Rattle.core_events.specs.declared.act.Act.{Act}
-use Rattle.core_events.specs.declared.shape.Shape.{Shape}
-use Rattle.core_events.specs.declared.view.CoreView.{CoreView}
-use Rattle.core_events.specs.Shows.{show_seat}
-use Rattle.core_events.specs.Views.{Holds, Terms}
-use Rattle.domain_rule.specs.declared.view.SeatView.{SeatView}
-use Rattle.domain_rule.specs.Told.{Told}
-use Rattle.domain_rule.proofs.Others.{has_there}
-use Rattle.control_word.proofs.Finding.{sound_before}
+use Rattle.protocol_pairs.specs.plain_state.declared.act.PlainAct.{PlainAct}
+use Rattle.protocol_pairs.specs.plain_state.declared.slot.SlotId.{SlotId}
+use Rattle.protocol_pairs.specs.plain_state.State.{Plain}
+use Rattle.protocol_pairs.specs.plain_protocol.Owns.{HasSlot, OwnPart}
+use Rattle.claim_law.specs.core_events.declared.act.Act.{Act}
+use Rattle.claim_law.specs.core_events.declared.shape.Shape.{Shape}
+use Rattle.claim_law.specs.core_events.declared.view.CoreView.{CoreView}
+use Rattle.claim_law.specs.core_events.Shows.{show_seat}
+use Rattle.claim_law.specs.core_events.Views.{Holds, Terms}
+use Rattle.retiring_stores.specs.domain_rule.declared.view.SeatView.{SeatView}
+use Rattle.retiring_stores.specs.domain_rule.Told.{Told}
+use Rattle.retiring_stores.proofs.Below.domain_rule.Others.{has_there}
+use Rattle.retiring_stores.proofs.Below.control_word.Finding.{sound_before}
 
 -- what a seat holds is a slot of its own part
 pub holds_has : (v : CoreView) (s : SlotId) → Holds v s → HasSlot (show_seat v) s

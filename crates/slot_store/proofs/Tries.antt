@@ -3,8 +3,8 @@ use Rattle.std.proofs.Common.{◌≡◌, inl, inr, ◌%◌, Bool, true, false, L
 use Rattle.std.specs.Prelude.{◌==◌}
 use Rattle.std.proofs.lemmas.Bool.Decides.{nat_tests}
 use Rattle.std.proofs.lemmas.Nat.Bits.{bit_at_ones}
-use Rattle.plain_state.specs.declared.slot.SlotId.{SlotId}
-use Rattle.core_events.specs.Words.{bit_in}
+use Rattle.protocol_pairs.specs.plain_state.declared.slot.SlotId.{SlotId}
+use Rattle.claim_law.specs.core_events.Words.{bit_in}
 use Rattle.slot_store.specs.Searching.{IsShownTaken, Try, bits_of, latest}
 
 -- where the newest word has the bit clear, it was shown clear

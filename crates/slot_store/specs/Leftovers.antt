@@ -1,15 +1,15 @@
 -- What a settle leaves: what snapshots of its own seat keep, and cycles.
 use Rattle.std.specs.Prelude.{ℕ, ◌≡◌, ◌⊎◌, ◌<◌, ◌≤◌, [], slice_index_or, Some, None}
-use Rattle.plain_state.specs.declared.slot.Kind.{Kind}
-use Rattle.plain_state.specs.declared.slot.Kind.TheVariants.{Disposal}
-use Rattle.plain_state.specs.declared.slot.SlotId.{SlotId}
-use Rattle.plain_state.specs.declared.slot.Stage.TheVariants.{Live}
-use Rattle.plain_state.specs.Lists.{entry_times, times}
-use Rattle.plain_state.specs.State.{Plain, slot_at, stage_at}
-use Rattle.core_events.specs.declared.view.CoreView.{CoreView}
-use Rattle.core_events.specs.Views.{snapshots}
-use Rattle.domain_rule.specs.declared.view.SeatView.{SeatView}
-use Rattle.domain_rule.specs.Views.{own_of}
+use Rattle.protocol_pairs.specs.plain_state.declared.slot.Kind.{Kind}
+use Rattle.protocol_pairs.specs.plain_state.declared.slot.Kind.TheVariants.{Disposal}
+use Rattle.protocol_pairs.specs.plain_state.declared.slot.SlotId.{SlotId}
+use Rattle.protocol_pairs.specs.plain_state.declared.slot.Stage.TheVariants.{Live}
+use Rattle.protocol_pairs.specs.plain_state.Lists.{entry_times, times}
+use Rattle.protocol_pairs.specs.plain_state.State.{Plain, slot_at, stage_at}
+use Rattle.claim_law.specs.core_events.declared.view.CoreView.{CoreView}
+use Rattle.claim_law.specs.core_events.Views.{snapshots}
+use Rattle.retiring_stores.specs.domain_rule.declared.view.SeatView.{SeatView}
+use Rattle.retiring_stores.specs.domain_rule.Views.{own_of}
 
 -- Nothing is ripe. Of equal retired entries no more are left than the seat is under such snapshots,
 -- and only slots of which it is under a weak snapshot are dying.

@@ -1,27 +1,27 @@
 -- What a seat does with a slot that it is to destroy.
 use Rattle.std.specs.Prelude.{ℕ, ◌≡◌, ◌⊎◌, ◌<◌, List, [], ◌∷◌, ◌++◌, slice_index, Bool, Option, None, Some, if◌then◌else◌}
 use Rattle.std.specs.Bool.{MatchBool}
-use Rattle.plain_state.specs.Limits.{words_of_payload}
-use Rattle.plain_state.specs.declared.act.EventPlace.{EventPlace}
-use Rattle.plain_state.specs.declared.act.EventPlace.TheVariants.{Field, WeakField}
-use Rattle.plain_state.specs.declared.slot.Kind.TheVariants.{Disposal}
-use Rattle.plain_state.specs.declared.slot.SlotId.{SlotId}
-use Rattle.plain_state.specs.Lists.{times}
-use Rattle.plain_protocol.specs.Owns.{HasSlot}
-use Rattle.announce_slots.specs.Seen.{announced_in}
-use Rattle.core_events.specs.declared.act.Act.TheVariants as act
-use Rattle.core_events.specs.declared.outcome.Outcome.TheVariants as outcome
-use Rattle.core_events.specs.declared.view.Move.{Move}
-use Rattle.core_events.specs.Shows.{show_seat}
-use Rattle.core_events.specs.Steps.{HasRoom}
-use Rattle.core_events.specs.Words.{each_from}
-use Rattle.domain_rule.specs.Views.{object_in}
-use Rattle.acquire_retire.specs.Calls.{IsSameView, Steps, same_view}
-use Rattle.acquire_retire.specs.Collecting.{move, rest_of}
-use Rattle.acquire_retire.specs.Domains.{DomainState}
-use Rattle.acquire_retire.specs.Seats.{SeatState}
-use Rattle.control_word.specs.Moves.{KnowsStill}
-use Rattle.control_word.specs.Resting.{IsAtRest}
+use Rattle.protocol_pairs.specs.plain_state.Limits.{words_of_payload}
+use Rattle.protocol_pairs.specs.plain_state.declared.act.EventPlace.{EventPlace}
+use Rattle.protocol_pairs.specs.plain_state.declared.act.EventPlace.TheVariants.{Field, WeakField}
+use Rattle.protocol_pairs.specs.plain_state.declared.slot.Kind.TheVariants.{Disposal}
+use Rattle.protocol_pairs.specs.plain_state.declared.slot.SlotId.{SlotId}
+use Rattle.protocol_pairs.specs.plain_state.Lists.{times}
+use Rattle.protocol_pairs.specs.plain_protocol.Owns.{HasSlot}
+use Rattle.claim_law.specs.announce_slots.Seen.{announced_in}
+use Rattle.claim_law.specs.core_events.declared.act.Act.TheVariants as act
+use Rattle.claim_law.specs.core_events.declared.outcome.Outcome.TheVariants as outcome
+use Rattle.claim_law.specs.core_events.declared.view.Move.{Move}
+use Rattle.claim_law.specs.core_events.Shows.{show_seat}
+use Rattle.claim_law.specs.core_events.Steps.{HasRoom}
+use Rattle.claim_law.specs.core_events.Words.{each_from}
+use Rattle.retiring_stores.specs.domain_rule.Views.{object_in}
+use Rattle.retiring_stores.specs.acquire_retire.Calls.{IsSameView, Steps, same_view}
+use Rattle.retiring_stores.specs.acquire_retire.Collecting.{move, rest_of}
+use Rattle.retiring_stores.specs.acquire_retire.Domains.{DomainState}
+use Rattle.retiring_stores.specs.acquire_retire.Seats.{SeatState}
+use Rattle.retiring_stores.specs.control_word.Moves.{KnowsStill}
+use Rattle.retiring_stores.specs.control_word.Resting.{IsAtRest}
 use Rattle.retiring_stores.specs.Exchanging.{Swaps}
 use Rattle.retiring_stores.specs.Scanning.{Collected}
 use Rattle.slot_store.specs.Searching.{Goes}

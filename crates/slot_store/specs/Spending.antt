@@ -1,8 +1,8 @@
 -- How many steps a seat has made, and how many collects and steps a settle takes.
 use Rattle.std.specs.Prelude.{ℕ, ◌+◌, ◌*◌, length}
-use Rattle.core_events.specs.Words.{announcements}
-use Rattle.acquire_retire.specs.Domains.{DomainState}
-use Rattle.acquire_retire.specs.Seats.{SeatState}
+use Rattle.claim_law.specs.core_events.Words.{announcements}
+use Rattle.retiring_stores.specs.acquire_retire.Domains.{DomainState}
+use Rattle.retiring_stores.specs.acquire_retire.Seats.{SeatState}
 use Rattle.slot_store.specs.Settling.{objects_known}
 
 -- the steps that a seat has made

@@ -1,7 +1,7 @@
 -- In which order a search comes to the slots: from the first one upwards, and after the last slot from
 -- slot 0 on.
 use Rattle.std.specs.Prelude.{ℕ, ◌≡◌, ◌⊎◌, ◌+◌, ◌-◌, ◌/◌, ◌%◌, ◌^◌, ◌<◌, ◌==◌, if◌then◌else◌}
-use Rattle.plain_state.specs.declared.slot.SlotId.{SlotId}
+use Rattle.protocol_pairs.specs.plain_state.declared.slot.SlotId.{SlotId}
 
 -- the slot of this number comes in this turn
 abbrev pub IsAtTurn : ℕ → ℕ → ℕ → ℕ → Type 0

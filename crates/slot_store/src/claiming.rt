@@ -1,15 +1,14 @@
 //! The search for a free slot: a seat claims slots by what the words of bits that it finds show.
 ghost use Rattle.std.specs.Prelude.{◌<◌, ◌-◌, ◌/◌, ◌^◌, ◌≡◌, ◌==◌, if◌then◌else◌, IsNone};
-ghost use Rattle.core_events.specs.Steps.{HasAdd, HasMake};
+ghost use Rattle.claim_law.specs.core_events.Steps.{HasAdd, HasMake};
 ghost use Rattle.claim_law.specs.Claims.{makes_given};
-ghost use Rattle.acquire_retire.specs.Calls.{IsOf};
-ghost use Rattle.control_word.specs.Resting.{IsAtRest};
+ghost use Rattle.retiring_stores.specs.acquire_retire.Calls.{IsOf};
+ghost use Rattle.retiring_stores.specs.control_word.Resting.{IsAtRest};
 ghost use Rattle.slot_store.specs.Searching.{Searches};
 ghost use Rattle.slot_store.specs.Turns.{IsAtTurn, newest};
 
-use acquire_retire::{Domain, Outcome, Seat, SlotId};
-use core_functions::has_bit;
-use plain_protocol::Protocol;
+use protocol_pairs::Protocol;
+use retiring_stores::{Domain, Outcome, Seat, SlotId, has_bit};
 
 /// How many slots have their bits in one word.
 const SLOTS_IN_WORD: u32 = 64;

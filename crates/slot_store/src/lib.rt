@@ -24,13 +24,11 @@ mod making;
 mod reading;
 mod reaping;
 mod settling;
-#[cfg(test)]
-mod tests;
-#[cfg(test)]
-mod tests_settle;
 
-pub use counted_handles::{SlotId, Strong};
+pub use deleter::Deleter;
 pub use making::{MakeError, make};
+pub use protocol_pairs::{InPart, Left, Pair, PairKind, Part, Right, Spares};
 pub use reading::read;
 pub use reaping::reap;
+pub use retiring_stores::{Domain, EventPlace, Outcome, Seat, SlotId, Strong, held_as};
 pub use settling::settle;

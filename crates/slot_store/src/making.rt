@@ -1,20 +1,19 @@
 //! A new object in a free slot.
 ghost use Rattle.std.specs.Prelude.{ℕ, ◌≡◌, ◌≢◌, ◌<◌, ◌↔◌, Err, IfOk, OnErr};
-ghost use Rattle.core_events.specs.declared.view.Phase.TheVariants as phase;
-ghost use Rattle.plain_state.specs.Lists.{times};
-ghost use Rattle.core_events.specs.Steps.{HasRoom};
+ghost use Rattle.claim_law.specs.core_events.declared.view.Phase.TheVariants as phase;
+ghost use Rattle.protocol_pairs.specs.plain_state.Lists.{times};
+ghost use Rattle.claim_law.specs.core_events.Steps.{HasRoom};
 ghost use Rattle.claim_law.specs.Claims.{makes_given};
-ghost use Rattle.acquire_retire.specs.Calls.{IsOf};
-ghost use Rattle.control_word.specs.Moves.{KnowsStill};
-ghost use Rattle.control_word.specs.Resting.{IsAtRest, IsSpent};
+ghost use Rattle.retiring_stores.specs.acquire_retire.Calls.{IsOf};
+ghost use Rattle.retiring_stores.specs.control_word.Moves.{KnowsStill};
+ghost use Rattle.retiring_stores.specs.control_word.Resting.{IsAtRest, IsSpent};
 ghost use Rattle.slot_store.specs.declared.making.MakeError.TheVariants as refused;
 ghost use Rattle.slot_store.specs.Calls.{Fills, HasNoMake, IsReadyToMake, Makes};
 ghost use Rattle.slot_store.specs.Searching.{Misses};
 
 use crate::claiming::claim_any;
-use acquire_retire::{Domain, Seat, SlotId};
-use counted_handles::Strong;
-use plain_protocol::{Deed, Protocol};
+use protocol_pairs::{Deed, Protocol};
+use retiring_stores::{Domain, Seat, SlotId, Strong};
 
 /// Why no object was made.
 #[derive(Clone, Copy, PartialEq, Eq, Debug, Drop)]

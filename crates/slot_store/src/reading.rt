@@ -1,15 +1,15 @@
 //! A payload word of an object, as a seat that has its slot reads it.
 ghost use Rattle.std.specs.Prelude.{◌≡◌, ◌<◌, slice_index};
-ghost use Rattle.plain_state.specs.Limits.{words_of_payload};
-ghost use Rattle.core_events.specs.Views.{Holds};
-ghost use Rattle.domain_rule.specs.Views.{object_in};
-ghost use Rattle.core_events.specs.Steps.{HasRoom};
-ghost use Rattle.control_word.specs.Moves.{KnowsStill};
-ghost use Rattle.control_word.specs.Resting.{IsAtRest};
+ghost use Rattle.protocol_pairs.specs.plain_state.Limits.{words_of_payload};
+ghost use Rattle.claim_law.specs.core_events.Views.{Holds};
+ghost use Rattle.retiring_stores.specs.domain_rule.Views.{object_in};
+ghost use Rattle.claim_law.specs.core_events.Steps.{HasRoom};
+ghost use Rattle.retiring_stores.specs.control_word.Moves.{KnowsStill};
+ghost use Rattle.retiring_stores.specs.control_word.Resting.{IsAtRest};
 ghost use Rattle.slot_store.specs.Calls.{SeesWord};
 
-use acquire_retire::{Domain, Outcome, Seat, SlotId};
-use plain_protocol::Protocol;
+use protocol_pairs::Protocol;
+use retiring_stores::{Domain, Outcome, Seat, SlotId};
 
 /// A payload word of the object in a slot that the seat holds: what the slot was made with, and what the domain shows
 /// at the step. One step.

@@ -1,19 +1,18 @@
 //! The destruction of an object that a seat has ended.
 ghost use Rattle.std.specs.Prelude.{◌≡◌, ◌<◌, ◌≤◌, ◌+◌, IfSome, []};
-ghost use Rattle.plain_state.specs.Lists.{times};
-ghost use Rattle.core_events.specs.Steps.{HasRoom};
-ghost use Rattle.core_events.specs.Views.{IsRipeField};
-ghost use Rattle.control_word.specs.Resting.{IsAtRest};
+ghost use Rattle.protocol_pairs.specs.plain_state.Lists.{times};
+ghost use Rattle.claim_law.specs.core_events.Steps.{HasRoom};
+ghost use Rattle.claim_law.specs.core_events.Views.{IsRipeField};
+ghost use Rattle.retiring_stores.specs.control_word.Resting.{IsAtRest};
 ghost use Rattle.deleter.specs.Weighing.{Weighs};
-ghost use Rattle.domain_rule.specs.Views.{HasCleared};
-ghost use Rattle.acquire_retire.specs.Collecting.{rest_of};
+ghost use Rattle.retiring_stores.specs.domain_rule.Views.{HasCleared};
+ghost use Rattle.retiring_stores.specs.acquire_retire.Collecting.{rest_of};
 ghost use Rattle.slot_store.specs.Reaping.{Answers, Clears, Destroys, FindsRipe, KnowsBoth, Passes, SeesAll};
 ghost use Rattle.slot_store.specs.Spending.{reap_most, steps_made};
 
-use acquire_retire::{Domain, EventPlace, Outcome, Seat, SlotId};
 use deleter::Deleter;
-use plain_protocol::{Protocol, Still};
-use retiring_stores::{collect, exchange};
+use protocol_pairs::{Protocol, Still};
+use retiring_stores::{Domain, EventPlace, Outcome, Seat, SlotId, collect, exchange};
 
 /// Destroys one ripe slot of those that the seat has ended, and answers the weight of its payload, on which the deleter
 /// is called. Where none is ripe the seat collects first. `None` exactly where none is dying, or where none is ripe and

@@ -1,21 +1,20 @@
 //! How a seat that is alone destroys all that may be destroyed.
 ghost use Rattle.std.specs.Prelude.{◌≡◌, ◌≤◌, ◌+◌};
 ghost use Rattle.std.specs.Bool.{MatchBool};
-ghost use Rattle.core_events.specs.Steps.{HasRoom};
-ghost use Rattle.control_word.specs.Resting.{IsAtRest};
+ghost use Rattle.claim_law.specs.core_events.Steps.{HasRoom};
+ghost use Rattle.retiring_stores.specs.control_word.Resting.{IsAtRest};
 ghost use Rattle.deleter.specs.Weighing.{Weighs};
-ghost use Rattle.domain_rule.specs.Views.{IsAlone};
-ghost use Rattle.acquire_retire.specs.Collecting.{rest_of};
+ghost use Rattle.retiring_stores.specs.domain_rule.Views.{IsAlone};
+ghost use Rattle.retiring_stores.specs.acquire_retire.Collecting.{rest_of};
 ghost use Rattle.slot_store.specs.Leftovers.{IsQuiet, LeavesCycles};
 ghost use Rattle.slot_store.specs.Reaping.{KnowsBoth};
 ghost use Rattle.slot_store.specs.Settling.{GoesOn, Quiets, Settles};
 ghost use Rattle.slot_store.specs.Spending.{settle_most, steps_made};
 
 use crate::reaping::reap;
-use acquire_retire::{Domain, Seat};
 use deleter::Deleter;
-use plain_protocol::Protocol;
-use retiring_stores::collect;
+use protocol_pairs::Protocol;
+use retiring_stores::{Domain, Seat, collect};
 
 /// Collects, and tells whether that ejected an entry or left a slot ripe.
 fn gathers<P: Protocol>(domain: &Domain<P>, seat: &mut Seat<P>) -> bool

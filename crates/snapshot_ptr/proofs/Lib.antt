@@ -1,3 +1,4 @@
+pub mod Below
 pub mod Under
 pub mod Staying
 pub mod Taken

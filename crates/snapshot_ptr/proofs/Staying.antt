@@ -1,18 +1,18 @@
 -- Which snapshots a seat stays under.
 use Rattle.std.proofs.Common.{◌≡◌, ℕ, ◌<◌, ◌≤◌, List, length, ap, ◌∙◌, arith}
 use Rattle.std.specs.Prelude.{Option, Some, None}
-use Rattle.plain_state.specs.declared.slot.Kind.{Kind}
-use Rattle.plain_state.specs.declared.slot.Kind.TheVariants.{Strong, Weak, Disposal}
-use Rattle.plain_state.specs.declared.slot.SlotId.{SlotId}
-use Rattle.plain_state.specs.Lists.{times}
-use Rattle.core_events.specs.declared.view.CoreView.{CoreView}
-use Rattle.core_events.specs.declared.view.Note.{Note}
-use Rattle.core_events.specs.declared.view.Note.TheVariants as note
-use Rattle.core_events.specs.declared.view.Move.{Move}
-use Rattle.core_events.specs.Steps.{with_note}
-use Rattle.core_events.specs.Views.{note_of}
-use Rattle.core_law.proofs.Kit.{times_push}
-use Rattle.control_word.specs.Calls.{with_strong}
+use Rattle.protected_loads.specs.plain_state.declared.slot.Kind.{Kind}
+use Rattle.protected_loads.specs.plain_state.declared.slot.Kind.TheVariants.{Strong, Weak, Disposal}
+use Rattle.protected_loads.specs.plain_state.declared.slot.SlotId.{SlotId}
+use Rattle.protected_loads.specs.plain_state.Lists.{times}
+use Rattle.protected_loads.specs.core_events.declared.view.CoreView.{CoreView}
+use Rattle.protected_loads.specs.core_events.declared.view.Note.{Note}
+use Rattle.protected_loads.specs.core_events.declared.view.Note.TheVariants as note
+use Rattle.protected_loads.specs.core_events.declared.view.Move.{Move}
+use Rattle.protected_loads.specs.core_events.Steps.{with_note}
+use Rattle.protected_loads.specs.core_events.Views.{note_of}
+use Rattle.protected_loads.proofs.Below.core_law.Kit.{times_push}
+use Rattle.protected_loads.specs.control_word.Calls.{with_strong}
 use Rattle.protected_loads.specs.References.{with_reference}
 use Rattle.protected_loads.proofs.Noting.{beside}
 use Rattle.snapshot_ptr.specs.Handles.{IsHeldBy, StaysUnder}

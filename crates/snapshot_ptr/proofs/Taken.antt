@@ -1,25 +1,25 @@
 -- What a seat has of the snapshots once it has taken one, or missed it.
 use Rattle.std.proofs.Common.{◌≡◌, ℕ, ◌<◌, List, ◌++◌, length, refl, ap, sym, ◌∙◌, subst, arith}
 use Rattle.std.specs.Prelude.{IfSome, Option, Some, None}
-use Rattle.counted_handles.specs.declared.refusal.LoadError.{LoadError}
-use Rattle.counted_handles.specs.declared.refusal.LoadError.TheVariants as refused
-use Rattle.plain_state.specs.declared.act.EventPlace.{EventPlace}
-use Rattle.plain_state.specs.declared.act.PlainAct.{PlainAct}
-use Rattle.plain_state.specs.declared.slot.Kind.{Kind}
-use Rattle.plain_state.specs.declared.slot.Kind.TheVariants.{Strong}
-use Rattle.plain_state.specs.declared.slot.SlotId.{SlotId}
-use Rattle.plain_state.specs.Places.{place_kind}
-use Rattle.plain_state.specs.State.{Plain}
-use Rattle.plain_protocol.specs.Owns.{OwnPart}
-use Rattle.core_events.specs.declared.view.CoreView.{CoreView}
-use Rattle.core_events.specs.declared.view.Move.{Move}
-use Rattle.core_events.specs.declared.view.Note.TheVariants as note
-use Rattle.core_events.specs.Steps.{CanGive}
-use Rattle.core_events.specs.Views.{Holds, note_of}
-use Rattle.core_events.specs.Words.{slot_in}
-use Rattle.acquire_retire.specs.Notes.{least_free}
-use Rattle.acquire_retire.specs.Domains.{DomainState}
-use Rattle.acquire_retire.specs.Seats.{SeatState}
+use Rattle.protected_loads.specs.counted_handles.declared.refusal.LoadError.{LoadError}
+use Rattle.protected_loads.specs.counted_handles.declared.refusal.LoadError.TheVariants as refused
+use Rattle.protected_loads.specs.plain_state.declared.act.EventPlace.{EventPlace}
+use Rattle.protected_loads.specs.plain_state.declared.act.PlainAct.{PlainAct}
+use Rattle.protected_loads.specs.plain_state.declared.slot.Kind.{Kind}
+use Rattle.protected_loads.specs.plain_state.declared.slot.Kind.TheVariants.{Strong}
+use Rattle.protected_loads.specs.plain_state.declared.slot.SlotId.{SlotId}
+use Rattle.protected_loads.specs.plain_state.Places.{place_kind}
+use Rattle.protected_loads.specs.plain_state.State.{Plain}
+use Rattle.protected_loads.specs.plain_protocol.Owns.{OwnPart}
+use Rattle.protected_loads.specs.core_events.declared.view.CoreView.{CoreView}
+use Rattle.protected_loads.specs.core_events.declared.view.Move.{Move}
+use Rattle.protected_loads.specs.core_events.declared.view.Note.TheVariants as note
+use Rattle.protected_loads.specs.core_events.Steps.{CanGive}
+use Rattle.protected_loads.specs.core_events.Views.{Holds, note_of}
+use Rattle.protected_loads.specs.core_events.Words.{slot_in}
+use Rattle.protected_loads.specs.acquire_retire.Notes.{least_free}
+use Rattle.protected_loads.specs.acquire_retire.Domains.{DomainState}
+use Rattle.protected_loads.specs.acquire_retire.Seats.{SeatState}
 use Rattle.protected_loads.specs.Loads.{FindsNull, Misses, Protects, protected_by}
 use Rattle.protected_loads.specs.References.{Loads, loaded_by}
 use Rattle.protected_loads.specs.Retries.{AtLast}

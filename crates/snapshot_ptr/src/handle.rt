@@ -2,7 +2,7 @@
 ghost use Rattle.std.specs.Prelude.{◌≡◌, ◌↔◌, IfSome, IsTrue, None};
 ghost use Rattle.snapshot_ptr.specs.Handles.{slot_under};
 
-use acquire_retire::SlotId;
+use protected_loads::SlotId;
 use std::marker::Model;
 
 /// A snapshot. A call that takes it asks that the seat is under it.

@@ -1,19 +1,17 @@
 //! What becomes of a snapshot: a reference of its own, or its end.
 ghost use Rattle.std.specs.Prelude.{◌≡◌, ◌<◌, ◌↔◌, IfOk, IsErr, OnErr};
-ghost use Rattle.plain_state.specs.Lists.{times};
-ghost use Rattle.core_events.specs.Steps.{HasRoom};
-ghost use Rattle.acquire_retire.specs.Calls.{IsSameView, same_view};
-ghost use Rattle.control_word.specs.Calls.{GainsStrong};
-ghost use Rattle.control_word.specs.Moves.{KnowsStill};
-ghost use Rattle.control_word.specs.Resting.{IsAtRest, IsSpent};
+ghost use Rattle.protected_loads.specs.plain_state.Lists.{times};
+ghost use Rattle.protected_loads.specs.core_events.Steps.{HasRoom};
+ghost use Rattle.protected_loads.specs.acquire_retire.Calls.{IsSameView, same_view};
+ghost use Rattle.protected_loads.specs.control_word.Calls.{GainsStrong};
+ghost use Rattle.protected_loads.specs.control_word.Moves.{KnowsStill};
+ghost use Rattle.protected_loads.specs.control_word.Resting.{IsAtRest, IsSpent};
 ghost use Rattle.snapshot_ptr.specs.Ending.{Ends, KeepsOthers, without_snapshot};
 ghost use Rattle.snapshot_ptr.specs.Handles.{IsUnder, StaysUnder, notes_without};
 
 use crate::handle::Snapshot;
-use acquire_retire::{Domain, Seat};
-use control_word::drop_strong;
-use counted_handles::{Spent, Strong};
-use plain_protocol::{Protocol, Still};
+use atomic_shared::Strong;
+use protected_loads::{Domain, Protocol, Seat, Spent, Still, drop_strong};
 
 /// A strong reference to the object of a snapshot, which stays. It always counts, since the object lives. `Spent`
 /// exactly where the seat has used all adds of its quota, and then nothing has changed. One step, and one add.

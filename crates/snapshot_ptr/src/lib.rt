@@ -26,10 +26,13 @@
 mod handle;
 mod keeping;
 mod taking;
-#[cfg(test)]
-mod tests;
 
-pub use counted_handles::{LoadError, Place, SlotId, Spent, Strong};
+pub use atomic_shared::{Strong, collect, compare_exchange, exchange, load, store};
 pub use handle::{Snapshot, counted};
 pub use keeping::{end, keep};
+pub use protected_loads::{
+    AnyStep, Deed, Kind, LoadError, NoLaw, OpenError, OutOfMemory, PayloadKind, Place, Protocol,
+    Quota, RecordKind, Shape, SlotId, Spent, Weak, copy_strong, drop_strong, drop_weak,
+    open_domain, record_of, upgrade, weaken,
+};
 pub use taking::{snapshot, try_snapshot};

@@ -1,12 +1,12 @@
 //! A snapshot of what a strong place holds.
 ghost use Rattle.std.specs.Prelude.{ℕ, ◌≡◌, ◌↔◌, Err, IfOk, IfSome, IsErr, OnErr};
-ghost use Rattle.core_events.specs.Steps.{HasRoom};
-ghost use Rattle.core_events.specs.Views.{Holds};
-ghost use Rattle.core_events.specs.Words.{slot_in};
-ghost use Rattle.counted_handles.specs.declared.refusal.LoadError.TheVariants as refused;
-ghost use Rattle.acquire_retire.specs.Notes.{least_free};
-ghost use Rattle.control_word.specs.Moves.{KnowsStill};
-ghost use Rattle.control_word.specs.Resting.{IsAtRest};
+ghost use Rattle.protected_loads.specs.core_events.Steps.{HasRoom};
+ghost use Rattle.protected_loads.specs.core_events.Views.{Holds};
+ghost use Rattle.protected_loads.specs.core_events.Words.{slot_in};
+ghost use Rattle.protected_loads.specs.counted_handles.declared.refusal.LoadError.TheVariants as refused;
+ghost use Rattle.protected_loads.specs.acquire_retire.Notes.{least_free};
+ghost use Rattle.protected_loads.specs.control_word.Moves.{KnowsStill};
+ghost use Rattle.protected_loads.specs.control_word.Resting.{IsAtRest};
 ghost use Rattle.protected_loads.specs.Loads.{Misses};
 ghost use Rattle.protected_loads.specs.Retries.{AtLast};
 ghost use Rattle.atomic_shared.specs.Loading.{CanLoad};
@@ -15,11 +15,11 @@ ghost use Rattle.snapshot_ptr.specs.Handles.{IsUnder, StaysUnder, notes_with, sl
 ghost use Rattle.snapshot_ptr.specs.Taking.{CanTakeNone, IsReadyToRetake, IsReadyToTake, Takes, word_taken};
 
 use crate::handle::{Snapshot, held_by};
-use acquire_retire::{Domain, Seat};
 use atomic_shared::event_place;
-use counted_handles::{LoadError, Place, Spent};
-use plain_protocol::{Deed, Protocol};
-use protected_loads::{acquire, acquire_at_last, in_words, load, try_load};
+use protected_loads::{
+    Deed, Domain, LoadError, Place, Protocol, Seat, Spent, acquire, acquire_at_last, in_words,
+    load, try_load,
+};
 use std::sync::Wait;
 
 /// A snapshot of what the place holds, by the least of the announcement words 1 to 3 that stands for nothing. Where all

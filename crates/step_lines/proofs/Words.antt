@@ -1,9 +1,9 @@
 -- The words of a line, one by one.
 use Rattle.std.proofs.Common.{◌≡◌, ℕ, List, [], ◌∷◌, length, get_or, Option, refl, arith}
 use Rattle.std.specs.Borrow.{Bor}
-use Rattle.plain_state.specs.declared.act.EventPlace.{EventPlace}
-use Rattle.plain_state.specs.declared.slot.Kind.{Kind}
-use Rattle.plain_state.specs.declared.slot.SlotId.{SlotId}
+use Rattle.core_events.specs.plain_state.declared.act.EventPlace.{EventPlace}
+use Rattle.core_events.specs.plain_state.declared.slot.Kind.{Kind}
+use Rattle.core_events.specs.plain_state.declared.slot.SlotId.{SlotId}
 use Rattle.line_words.specs.Words.{texts_of}
 use Rattle.step_lines.specs.Spelling.{Content, KindWord, Number, Place, Slot}
 

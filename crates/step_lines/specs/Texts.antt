@@ -1,7 +1,7 @@
 -- How an event and its outcome are written.
 use Rattle.std.specs.Prelude.{ℕ, List, ◌++◌, codes, Option, Some, None}
 use Rattle.std.specs.Fmt.{decimal}
-use Rattle.plain_state.specs.declared.slot.SlotId.{SlotId}
+use Rattle.core_events.specs.plain_state.declared.slot.SlotId.{SlotId}
 use Rattle.core_events.specs.declared.act.Act.{Act}
 use Rattle.core_events.specs.declared.act.Act.TheVariants as act
 use Rattle.core_events.specs.declared.outcome.Outcome.{Outcome}

@@ -22,10 +22,9 @@ mod events;
 pub mod laws;
 mod refused;
 mod shapes;
-#[cfg(test)]
-mod tests;
 mod texts;
 
+pub use core_events::{decode, encode};
 pub use events::event_line;
 pub use refused::EventRefused;
 pub use shapes::shape_line;

@@ -2,9 +2,8 @@
 ghost use Rattle.std.specs.Prelude.{◌≡◌, ◌++◌, OnOk, OnErr};
 ghost use Rattle.step_lines.specs.Texts.{content_text, event_name, event_text, outcome_text};
 
-use cdrc_text::push_number;
 use core_events::{Act, Outcome, SlotId};
-use out_of_memory::OutOfMemory;
+use line_words::{OutOfMemory, push_number};
 
 /// Puts the event's name, a space, its outcome and a line feed at the end. A refusal, for an allocation failure,
 /// leaves the text as it was.

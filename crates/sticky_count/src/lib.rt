@@ -24,8 +24,6 @@ mod outcome;
 mod rule;
 mod seat;
 mod sticky;
-#[cfg(test)]
-mod tests;
 mod view;
 
 pub use counter_word::{Fin, HELP, Sub, ZERO, add, finish, sub, take_help, value};

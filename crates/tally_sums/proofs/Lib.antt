@@ -1,3 +1,4 @@
+pub mod Below
 pub mod Joined
 pub mod Ordered
 pub mod Steps

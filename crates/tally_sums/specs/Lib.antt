@@ -1,1 +1,4 @@
+-- What callers cite of the crates below.
+pub use Rattle.cdrc_text.specs as cdrc_text
+-- Its own.
 pub mod Sums

@@ -3,7 +3,7 @@ ghost use Rattle.std.specs.Prelude.{◌≡◌, ◌<◌, ◌^◌, ℕ, List, IfOk
 ghost use Rattle.cdrc_text.specs.Tally.{shown_entries};
 ghost use Rattle.tally_sums.specs.Sums.{added_up, sum_for};
 
-use out_of_memory::OutOfMemory;
+use cdrc_text::OutOfMemory;
 use std::alloc::Global;
 
 /// Equal words that stand side by side become one, with the sum of their counts.

@@ -11,7 +11,6 @@
 
 mod adding;
 mod listing;
-#[cfg(test)]
-mod tests;
 
+pub use cdrc_text::{AuditLine, OutOfMemory, PiecesError, Row, Tally, Totals, pieces, report};
 pub use listing::counted_words;

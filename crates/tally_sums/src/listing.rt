@@ -4,8 +4,7 @@ ghost use Rattle.cdrc_text.specs.Tally.{ListsWords, shown_entries};
 ghost use Rattle.tally_sums.specs.Sums.{AreListed, ListsEach, SumsUp, counted_in};
 
 use crate::adding::add_up;
-use cdrc_text::Tally;
-use out_of_memory::OutOfMemory;
+use cdrc_text::{OutOfMemory, Tally};
 use std::alloc::Global;
 use std::thread;
 use std::thread::Threads;

@@ -2,7 +2,7 @@
 use Rattle.std.proofs.Common.{◌≡◌, ℕ, zero, suc, ◌+◌, ◌-◌, ◌<◌, List, [], ◌∷◌, ◌++◌, length, set, take, refl, ap, sym, ◌∙◌, arith, append_assoc}
 use Rattle.std.specs.Prelude.{◌%◌, ◌/◌, min}
 use Rattle.std.proofs.lemmas.List.{take_more_set}
-use Rattle.directory_law.specs.Bytes.{low_bytes, piece_bytes}
+use Rattle.directory_calls.specs.directory_law.Bytes.{low_bytes, piece_bytes}
 
 -- BYTES OF A WORD. One more of them
 low_more : (n word : ℕ) → 0 < n → low_bytes n word ≡ word % 256 ∷ low_bytes (n - 1) (word / 256)

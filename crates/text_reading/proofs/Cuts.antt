@@ -2,9 +2,9 @@
 use Rattle.std.proofs.Common.{◌≡◌, ℕ, ◌+◌, ◌-◌, ◌<◌, List, [], ◌∷◌, ◌++◌, refl, ap, sym, ◌∙◌, subst, arith, append_assoc}
 use Rattle.std.specs.Prelude.{min}
 use Rattle.std.proofs.lemmas.List.{append-nil}
-use Rattle.directory_law.specs.Views.{Each}
-use Rattle.directory_law.specs.Payloads.{Text, size, IsHead, IsCut, IsRest, IsText}
-use Rattle.directory_law.specs.Bytes.{part_bytes, piece_bytes, text_bytes}
+use Rattle.directory_calls.specs.directory_law.Views.{Each}
+use Rattle.directory_calls.specs.directory_law.Payloads.{Text, size, IsHead, IsCut, IsRest, IsText}
+use Rattle.directory_calls.specs.directory_law.Bytes.{part_bytes, piece_bytes, text_bytes}
 
 -- parts that are cut from n bytes, one after another, and leave m
 abbrev pub Cuts : ℕ → Text → ℕ → Type 0

@@ -2,26 +2,26 @@
 use Rattle.std.proofs.Common.{◌≡◌, ◌≢◌, ℕ, ◌+◌, ◌<◌, List, [], ◌∷◌, ◌++◌, length, length-set, refl, ap, sym, ◌∙◌, subst, arith}
 use Rattle.std.specs.Prelude.{Option, Some, None, slice_set}
 use Rattle.std.proofs.lemmas.List.{set-set}
-use Rattle.plain_state.specs.declared.slot.Kind.TheVariants.{Strong}
-use Rattle.plain_state.specs.declared.slot.SlotId.{SlotId}
-use Rattle.plain_protocol.specs.Owns.{HasSlot, Object}
-use Rattle.core_events.specs.declared.view.CoreView.{CoreView}
-use Rattle.core_events.specs.declared.view.Move.{Move}
-use Rattle.core_events.specs.declared.view.Note.{Note}
-use Rattle.core_events.specs.declared.view.Note.TheVariants as note
-use Rattle.core_events.specs.Shows.{show_seat}
-use Rattle.core_events.specs.Steps.{with_note}
-use Rattle.core_events.specs.Views.{HoldsStrongly, note_of}
-use Rattle.acquire_retire.specs.Notes.{least_free}
-use Rattle.acquire_retire.specs.Seats.{SeatState}
-use Rattle.control_word.specs.Moves.{KnowsStill}
-use Rattle.protected_loads.proofs.Noting.{beside, more_has, more_holds, snapshot_gains, written, written_back}
-use Rattle.protected_loads.proofs.Telling.{holds_has}
+use Rattle.snapshot_ptr.specs.plain_state.declared.slot.Kind.TheVariants.{Strong}
+use Rattle.snapshot_ptr.specs.plain_state.declared.slot.SlotId.{SlotId}
+use Rattle.snapshot_ptr.specs.plain_protocol.Owns.{HasSlot, Object}
+use Rattle.slot_store.specs.core_events.declared.view.CoreView.{CoreView}
+use Rattle.slot_store.specs.core_events.declared.view.Move.{Move}
+use Rattle.slot_store.specs.core_events.declared.view.Note.{Note}
+use Rattle.slot_store.specs.core_events.declared.view.Note.TheVariants as note
+use Rattle.slot_store.specs.core_events.Shows.{show_seat}
+use Rattle.slot_store.specs.core_events.Steps.{with_note}
+use Rattle.slot_store.specs.core_events.Views.{HoldsStrongly, note_of}
+use Rattle.slot_store.specs.acquire_retire.Notes.{least_free}
+use Rattle.slot_store.specs.acquire_retire.Seats.{SeatState}
+use Rattle.slot_store.specs.control_word.Moves.{KnowsStill}
+use Rattle.snapshot_ptr.proofs.Below.protected_loads.Noting.{beside, more_has, more_holds, snapshot_gains, written, written_back}
+use Rattle.snapshot_ptr.proofs.Below.protected_loads.Telling.{holds_has}
 use Rattle.snapshot_ptr.specs.Handles.{IsHeldBy}
 use Rattle.snapshot_ptr.proofs.Under.{IsFreeWord, has_strongly, least_is_free}
-use Rattle.directory_law.specs.declared.view.View.{View}
-use Rattle.directory_law.specs.Lessons.{reads_on}
-use Rattle.directory_law.specs.Payloads.{IsText}
+use Rattle.directory_calls.specs.directory_law.declared.view.View.{View}
+use Rattle.directory_calls.specs.directory_law.Lessons.{reads_on}
+use Rattle.directory_calls.specs.directory_law.Payloads.{IsText}
 use Rattle.text_reading.specs.Going.{ComesTo, ReadsOn, freed, last_run, one_if}
 use Rattle.text_reading.proofs.LetGo.{set_beside}
 use Rattle.text_reading.proofs.Steps.{comes_then, freed_trail}

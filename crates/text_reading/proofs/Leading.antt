@@ -2,29 +2,29 @@
 -- read.
 use Rattle.std.proofs.Common.{◌≡◌, inr, ℕ, zero, suc, ◌+◌, ◌<◌, Bool, true, false, List, ◌∷◌, refl, sym, ap, subst, ◌∙◌, arith, Some, None}
 use Rattle.std.specs.Prelude.{◌==◌, Option, if◌then◌else◌}
-use Rattle.plain_state.specs.declared.act.EventPlace.{EventPlace}
-use Rattle.plain_state.specs.declared.act.EventPlace.TheVariants.{Field}
-use Rattle.plain_state.specs.declared.act.PlainAct.{PlainAct}
-use Rattle.plain_state.specs.declared.slot.Kind.TheVariants.{Strong}
-use Rattle.plain_state.specs.declared.slot.SlotId.{SlotId}
-use Rattle.plain_state.specs.Lists.{entry_times, times}
-use Rattle.plain_state.specs.State.{Plain}
-use Rattle.plain_state.specs.Steps.{word_of}
-use Rattle.plain_protocol.specs.Owns.{Object, OwnPart}
-use Rattle.core_events.specs.declared.act.Act.TheVariants as act
-use Rattle.core_events.specs.declared.outcome.Outcome.{Outcome}
-use Rattle.core_events.specs.Runs.{after}
-use Rattle.core_events.specs.Words.{slot_in}
-use Rattle.core_law.proofs.ShownPlaces.{word_slot}
-use Rattle.acquire_retire.specs.Calls.{IsSameView, Steps, same_view}
-use Rattle.acquire_retire.specs.Domains.{DomainState}
-use Rattle.acquire_retire.specs.Seats.{SeatState}
-use Rattle.control_word.specs.Resting.{IsAtRest}
-use Rattle.protected_loads.proofs.Looking.{Looks}
-use Rattle.directory_law.specs.declared.view.Ran.{Ran}
-use Rattle.directory_law.specs.declared.view.View.{View}
-use Rattle.directory_law.specs.Lessons.{ReadReady, first_ran, lead_next, read_next, reads_part}
-use Rattle.directory_law.specs.Steps.{LooksAt, id, life_in}
+use Rattle.snapshot_ptr.specs.plain_state.declared.act.EventPlace.{EventPlace}
+use Rattle.snapshot_ptr.specs.plain_state.declared.act.EventPlace.TheVariants.{Field}
+use Rattle.snapshot_ptr.specs.plain_state.declared.act.PlainAct.{PlainAct}
+use Rattle.snapshot_ptr.specs.plain_state.declared.slot.Kind.TheVariants.{Strong}
+use Rattle.snapshot_ptr.specs.plain_state.declared.slot.SlotId.{SlotId}
+use Rattle.snapshot_ptr.specs.plain_state.Lists.{entry_times, times}
+use Rattle.snapshot_ptr.specs.plain_state.State.{Plain}
+use Rattle.snapshot_ptr.specs.plain_state.Steps.{word_of}
+use Rattle.snapshot_ptr.specs.plain_protocol.Owns.{Object, OwnPart}
+use Rattle.slot_store.specs.core_events.declared.act.Act.TheVariants as act
+use Rattle.slot_store.specs.core_events.declared.outcome.Outcome.{Outcome}
+use Rattle.slot_store.specs.core_events.Runs.{after}
+use Rattle.slot_store.specs.core_events.Words.{slot_in}
+use Rattle.slot_store.proofs.Below.core_law.ShownPlaces.{word_slot}
+use Rattle.slot_store.specs.acquire_retire.Calls.{IsSameView, Steps, same_view}
+use Rattle.slot_store.specs.acquire_retire.Domains.{DomainState}
+use Rattle.slot_store.specs.acquire_retire.Seats.{SeatState}
+use Rattle.slot_store.specs.control_word.Resting.{IsAtRest}
+use Rattle.snapshot_ptr.proofs.Below.protected_loads.Looking.{Looks}
+use Rattle.directory_calls.specs.directory_law.declared.view.Ran.{Ran}
+use Rattle.directory_calls.specs.directory_law.declared.view.View.{View}
+use Rattle.directory_calls.specs.directory_law.Lessons.{ReadReady, first_ran, lead_next, read_next, reads_part}
+use Rattle.directory_calls.specs.directory_law.Steps.{LooksAt, id, life_in}
 use Rattle.directory_calls.specs.Learning.{Learns}
 use Rattle.directory_calls.proofs.Learnt.{learns_none}
 

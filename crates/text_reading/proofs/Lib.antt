@@ -1,3 +1,4 @@
+pub mod Below
 pub mod Copied
 pub mod Cuts
 pub mod Steps

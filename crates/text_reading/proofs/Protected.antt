@@ -1,48 +1,48 @@
 -- A part that is protected by a look and a check, which find the same.
 use Rattle.std.proofs.Common.{◌≡◌, ◌≢◌, inl, inr, ℕ, suc, ◌+◌, ◌<◌, List, ◌∷◌, ◌++◌, length, refl, sym, ap, subst, ◌∙◌, arith, Some, None}
 use Rattle.std.specs.Prelude.{Option, if◌then◌else◌}
-use Rattle.plain_state.specs.declared.act.EventPlace.{EventPlace}
-use Rattle.plain_state.specs.declared.act.EventPlace.TheVariants.{Field}
-use Rattle.plain_state.specs.declared.act.PlainAct.{PlainAct}
-use Rattle.plain_state.specs.declared.act.PlainAct.TheVariants as plain
-use Rattle.plain_state.specs.declared.slot.Kind.TheVariants.{Strong}
-use Rattle.plain_state.specs.declared.slot.SlotId.{SlotId}
-use Rattle.plain_state.specs.Lists.{Entry, entry_times, times}
-use Rattle.plain_state.specs.State.{Plain, slot_at}
-use Rattle.plain_protocol.specs.Acts.{Owned}
-use Rattle.plain_protocol.specs.Owns.{HasSlot, Object, OwnPart}
-use Rattle.protocol_pairs.specs.Parts.{Accepts, Frees}
-use Rattle.core_events.specs.declared.act.Act.TheVariants as act
-use Rattle.core_events.specs.declared.outcome.Outcome.{Outcome}
-use Rattle.core_events.specs.declared.outcome.Outcome.TheVariants as outcome
-use Rattle.core_events.specs.declared.view.CoreView.{CoreView}
-use Rattle.core_events.specs.declared.view.Note.TheVariants as note
-use Rattle.core_events.specs.Runs.{after}
-use Rattle.core_events.specs.Shows.{show_seat, shows}
-use Rattle.core_events.specs.Steps.{IsIdle, with_note}
-use Rattle.core_events.specs.Views.{HoldsStrongly, IsReadable, note_of}
-use Rattle.core_events.specs.Words.{slot_in}
-use Rattle.domain_rule.specs.Views.{object_in, own_of}
-use Rattle.acquire_retire.specs.Calls.{IsOf, IsReady, IsSameView, Steps, same_view}
-use Rattle.acquire_retire.specs.Domains.{DomainState}
-use Rattle.acquire_retire.specs.Seats.{SeatState}
-use Rattle.acquire_retire.proofs.Contents.{check_on, look_on}
-use Rattle.control_word.specs.Moves.{KnowsStill}
-use Rattle.control_word.specs.Resting.{IsAtRest}
-use Rattle.protected_loads.specs.Loads.{Announces, Protects, announced_by}
-use Rattle.protected_loads.proofs.Checking.{has_announced, may_check, moved_word}
-use Rattle.protected_loads.proofs.Noting.{announced_not_valid, announced_same}
-use Rattle.protected_loads.proofs.Looking.{Looks, announces, may_announce}
-use Rattle.protected_loads.proofs.Protecting.{holds_snapshot, protected}
-use Rattle.protected_loads.proofs.Telling.{content_found, four_notes, holds_has}
-use Rattle.directory_law.specs.declared.view.Led.{Led}
-use Rattle.directory_law.specs.declared.view.Ran.{Ran}
-use Rattle.directory_law.specs.declared.view.View.{View}
-use Rattle.directory_law.specs.Views.{In}
-use Rattle.directory_law.specs.Lessons.{ReadReady, ReadTells, first_ran, lead_next, leads, read_next, reads_on, reads_part}
-use Rattle.directory_law.specs.Payloads.{IsText}
-use Rattle.directory_law.specs.Steps.{life_in, life_of}
-use Rattle.directory_protocol.specs.Keeping.{MindsNone}
+use Rattle.snapshot_ptr.specs.plain_state.declared.act.EventPlace.{EventPlace}
+use Rattle.snapshot_ptr.specs.plain_state.declared.act.EventPlace.TheVariants.{Field}
+use Rattle.snapshot_ptr.specs.plain_state.declared.act.PlainAct.{PlainAct}
+use Rattle.snapshot_ptr.specs.plain_state.declared.act.PlainAct.TheVariants as plain
+use Rattle.snapshot_ptr.specs.plain_state.declared.slot.Kind.TheVariants.{Strong}
+use Rattle.snapshot_ptr.specs.plain_state.declared.slot.SlotId.{SlotId}
+use Rattle.snapshot_ptr.specs.plain_state.Lists.{Entry, entry_times, times}
+use Rattle.snapshot_ptr.specs.plain_state.State.{Plain, slot_at}
+use Rattle.snapshot_ptr.specs.plain_protocol.Acts.{Owned}
+use Rattle.snapshot_ptr.specs.plain_protocol.Owns.{HasSlot, Object, OwnPart}
+use Rattle.slot_store.specs.protocol_pairs.Parts.{Accepts, Frees}
+use Rattle.slot_store.specs.core_events.declared.act.Act.TheVariants as act
+use Rattle.slot_store.specs.core_events.declared.outcome.Outcome.{Outcome}
+use Rattle.slot_store.specs.core_events.declared.outcome.Outcome.TheVariants as outcome
+use Rattle.slot_store.specs.core_events.declared.view.CoreView.{CoreView}
+use Rattle.slot_store.specs.core_events.declared.view.Note.TheVariants as note
+use Rattle.slot_store.specs.core_events.Runs.{after}
+use Rattle.slot_store.specs.core_events.Shows.{show_seat, shows}
+use Rattle.slot_store.specs.core_events.Steps.{IsIdle, with_note}
+use Rattle.slot_store.specs.core_events.Views.{HoldsStrongly, IsReadable, note_of}
+use Rattle.slot_store.specs.core_events.Words.{slot_in}
+use Rattle.slot_store.specs.domain_rule.Views.{object_in, own_of}
+use Rattle.slot_store.specs.acquire_retire.Calls.{IsOf, IsReady, IsSameView, Steps, same_view}
+use Rattle.slot_store.specs.acquire_retire.Domains.{DomainState}
+use Rattle.slot_store.specs.acquire_retire.Seats.{SeatState}
+use Rattle.slot_store.proofs.Below.acquire_retire.Contents.{check_on, look_on}
+use Rattle.slot_store.specs.control_word.Moves.{KnowsStill}
+use Rattle.slot_store.specs.control_word.Resting.{IsAtRest}
+use Rattle.snapshot_ptr.specs.protected_loads.Loads.{Announces, Protects, announced_by}
+use Rattle.snapshot_ptr.proofs.Below.protected_loads.Checking.{has_announced, may_check, moved_word}
+use Rattle.snapshot_ptr.proofs.Below.protected_loads.Noting.{announced_not_valid, announced_same}
+use Rattle.snapshot_ptr.proofs.Below.protected_loads.Looking.{Looks, announces, may_announce}
+use Rattle.snapshot_ptr.proofs.Below.protected_loads.Protecting.{holds_snapshot, protected}
+use Rattle.snapshot_ptr.proofs.Below.protected_loads.Telling.{content_found, four_notes, holds_has}
+use Rattle.directory_calls.specs.directory_law.declared.view.Led.{Led}
+use Rattle.directory_calls.specs.directory_law.declared.view.Ran.{Ran}
+use Rattle.directory_calls.specs.directory_law.declared.view.View.{View}
+use Rattle.directory_calls.specs.directory_law.Views.{In}
+use Rattle.directory_calls.specs.directory_law.Lessons.{ReadReady, ReadTells, first_ran, lead_next, leads, read_next, reads_on, reads_part}
+use Rattle.directory_calls.specs.directory_law.Payloads.{IsText}
+use Rattle.directory_calls.specs.directory_law.Steps.{life_in, life_of}
+use Rattle.directory_calls.specs.directory_protocol.Keeping.{MindsNone}
 use Rattle.directory_calls.proofs.Learnt.{learns_keeps}
 use Rattle.directory_calls.proofs.Parts.{LearnsBy, Place, lift_learns, lift_ready, lifts, part_then, tells}
 use Rattle.text_reading.specs.Going.{ComesTo, IsReading, PartTells, ReadsOn, last_run}

@@ -1,30 +1,30 @@
 -- How far a text was read, from slot to slot.
 use Rattle.std.proofs.Common.{◌≡◌, ◌≢◌, ℕ, ◌+◌, ◌-◌, ◌*◌, ◌<◌, ◌≤◌, List, [], ◌∷◌, ◌++◌, length, ap, sym, ◌∙◌, subst, arith}
 use Rattle.std.specs.Prelude.{Option, Some, None, min, slice_set}
-use Rattle.plain_state.specs.declared.slot.Kind.TheVariants.{Strong}
-use Rattle.plain_state.specs.declared.slot.SlotId.{SlotId}
-use Rattle.plain_state.specs.Lists.{times}
-use Rattle.plain_protocol.specs.Owns.{HasSlot, Object}
-use Rattle.core_events.specs.declared.view.CoreView.{CoreView}
-use Rattle.core_events.specs.declared.view.Note.TheVariants as note
-use Rattle.core_events.specs.Shows.{show_seat}
-use Rattle.core_events.specs.Steps.{with_note}
-use Rattle.core_events.specs.Views.{HoldsStrongly, note_of}
-use Rattle.domain_rule.specs.Views.{object_in}
-use Rattle.acquire_retire.specs.Domains.{DomainState}
-use Rattle.acquire_retire.specs.Notes.{least_free}
-use Rattle.acquire_retire.specs.Seats.{SeatState}
-use Rattle.control_word.specs.Moves.{KnowsStill}
-use Rattle.control_word.specs.Resting.{IsAtRest}
-use Rattle.protected_loads.proofs.Noting.{more_has, snapshot_gains, written}
-use Rattle.protected_loads.proofs.Telling.{holds_has}
+use Rattle.snapshot_ptr.specs.plain_state.declared.slot.Kind.TheVariants.{Strong}
+use Rattle.snapshot_ptr.specs.plain_state.declared.slot.SlotId.{SlotId}
+use Rattle.snapshot_ptr.specs.plain_state.Lists.{times}
+use Rattle.snapshot_ptr.specs.plain_protocol.Owns.{HasSlot, Object}
+use Rattle.slot_store.specs.core_events.declared.view.CoreView.{CoreView}
+use Rattle.slot_store.specs.core_events.declared.view.Note.TheVariants as note
+use Rattle.slot_store.specs.core_events.Shows.{show_seat}
+use Rattle.slot_store.specs.core_events.Steps.{with_note}
+use Rattle.slot_store.specs.core_events.Views.{HoldsStrongly, note_of}
+use Rattle.slot_store.specs.domain_rule.Views.{object_in}
+use Rattle.slot_store.specs.acquire_retire.Domains.{DomainState}
+use Rattle.slot_store.specs.acquire_retire.Notes.{least_free}
+use Rattle.slot_store.specs.acquire_retire.Seats.{SeatState}
+use Rattle.slot_store.specs.control_word.Moves.{KnowsStill}
+use Rattle.slot_store.specs.control_word.Resting.{IsAtRest}
+use Rattle.snapshot_ptr.proofs.Below.protected_loads.Noting.{more_has, snapshot_gains, written}
+use Rattle.snapshot_ptr.proofs.Below.protected_loads.Telling.{holds_has}
 use Rattle.snapshot_ptr.specs.Handles.{IsHeldBy}
 use Rattle.snapshot_ptr.proofs.Under.{IsFreeWord, has_strongly, least_is_free}
-use Rattle.directory_law.specs.declared.view.Ran.{Ran}
-use Rattle.directory_law.specs.Views.{Each}
-use Rattle.directory_law.specs.Bytes.{piece_bytes, text_bytes}
-use Rattle.directory_law.specs.Lessons.{first_ran, reads_on}
-use Rattle.directory_law.specs.Payloads.{IsHead, IsText, Text, size}
+use Rattle.directory_calls.specs.directory_law.declared.view.Ran.{Ran}
+use Rattle.directory_calls.specs.directory_law.Views.{Each}
+use Rattle.directory_calls.specs.directory_law.Bytes.{piece_bytes, text_bytes}
+use Rattle.directory_calls.specs.directory_law.Lessons.{first_ran, reads_on}
+use Rattle.directory_calls.specs.directory_law.Payloads.{IsHead, IsText, Text, size}
 use Rattle.directory_calls.proofs.Parts.{LearnsBy, Place, part_none, part_then}
 use Rattle.text_reading.specs.Going.{ComesTo, IsReading, ReadsOn, freed, last_run, one_if}
 use Rattle.text_reading.specs.Reading.{HasBegun, HasTwoFree, begun}

@@ -1,17 +1,17 @@
 -- A text that was read whole, once its last slot is let go.
 use Rattle.std.proofs.Common.{◌≡◌, ℕ, ◌+◌, ◌*◌, ◌<◌, ◌≤◌, List, ◌++◌, length, length-append, refl, ap, sym, ◌∙◌, subst, arith}
 use Rattle.std.specs.Prelude.{Option}
-use Rattle.plain_state.specs.declared.slot.SlotId.{SlotId}
-use Rattle.plain_state.specs.Lists.{times}
-use Rattle.plain_protocol.specs.Owns.{HasSlot, Object}
-use Rattle.core_events.specs.declared.view.CoreView.{CoreView}
-use Rattle.core_events.specs.Shows.{show_seat}
-use Rattle.core_events.specs.Steps.{HasRoom}
-use Rattle.acquire_retire.specs.Domains.{DomainState}
-use Rattle.acquire_retire.specs.Seats.{SeatState}
-use Rattle.control_word.specs.Moves.{KnowsStill}
-use Rattle.protected_loads.proofs.Telling.{holds_has}
-use Rattle.directory_law.specs.Payloads.{Text}
+use Rattle.snapshot_ptr.specs.plain_state.declared.slot.SlotId.{SlotId}
+use Rattle.snapshot_ptr.specs.plain_state.Lists.{times}
+use Rattle.snapshot_ptr.specs.plain_protocol.Owns.{HasSlot, Object}
+use Rattle.slot_store.specs.core_events.declared.view.CoreView.{CoreView}
+use Rattle.slot_store.specs.core_events.Shows.{show_seat}
+use Rattle.slot_store.specs.core_events.Steps.{HasRoom}
+use Rattle.slot_store.specs.acquire_retire.Domains.{DomainState}
+use Rattle.slot_store.specs.acquire_retire.Seats.{SeatState}
+use Rattle.slot_store.specs.control_word.Moves.{KnowsStill}
+use Rattle.snapshot_ptr.proofs.Below.protected_loads.Telling.{holds_has}
+use Rattle.directory_calls.specs.directory_law.Payloads.{Text}
 use Rattle.directory_calls.specs.Steps.{Leaves}
 use Rattle.directory_calls.proofs.Going.{leaves_core}
 use Rattle.directory_calls.proofs.Parts.{LearnsBy, Place}

@@ -2,19 +2,19 @@
 use Rattle.std.proofs.Common.{ℕ, subst, sym}
 use Rattle.std.specs.Prelude.{List, ◌++◌}
 use Rattle.std.proofs.lemmas.List.{get_or-set_same}
-use Rattle.plain_state.specs.State.{Plain}
-use Rattle.plain_protocol.specs.Laws.{Keeps}
-use Rattle.directory_law.specs.declared.view.Ran.{Ran}
-use Rattle.directory_law.specs.declared.view.View.{View}
-use Rattle.directory_law.specs.Views.{In, gone, view_at}
-use Rattle.directory_law.specs.Payloads.{Text, IsText}
-use Rattle.directory_law.specs.Cells.{Area}
-use Rattle.directory_law.specs.Learnt.{Running}
-use Rattle.directory_law.specs.Law.{DirectoryLaw}
-use Rattle.directory_law.specs.Lessons.{ReadReady, read_next}
-use Rattle.directory_law.proofs.Ends.{kept_is}
-use Rattle.directory_law.proofs.Notes.{each_in}
-use Rattle.directory_law.proofs.ReadingOn.{read_keeps}
+use Rattle.snapshot_ptr.specs.plain_state.State.{Plain}
+use Rattle.snapshot_ptr.specs.plain_protocol.Laws.{Keeps}
+use Rattle.directory_calls.specs.directory_law.declared.view.Ran.{Ran}
+use Rattle.directory_calls.specs.directory_law.declared.view.View.{View}
+use Rattle.directory_calls.specs.directory_law.Views.{In, gone, view_at}
+use Rattle.directory_calls.specs.directory_law.Payloads.{Text, IsText}
+use Rattle.directory_calls.specs.directory_law.Cells.{Area}
+use Rattle.directory_calls.specs.directory_law.Learnt.{Running}
+use Rattle.directory_calls.specs.directory_law.Law.{DirectoryLaw}
+use Rattle.directory_calls.specs.directory_law.Lessons.{ReadReady, read_next}
+use Rattle.directory_calls.proofs.Below.directory_law.Ends.{kept_is}
+use Rattle.directory_calls.proofs.Below.directory_law.Notes.{each_in}
+use Rattle.directory_calls.proofs.Below.directory_law.ReadingOn.{read_keeps}
 use Rattle.text_reading.specs.Going.{PartTells}
 
 -- by the law each text that a seat has begun to read goes on to a whole one

@@ -1,18 +1,18 @@
 -- How a seat goes on from one slot of a text to the next.
 use Rattle.std.specs.Prelude.{ℕ, ◌≡◌, List, [], ◌∷◌, ◌++◌, length, Option, Some, None}
-use Rattle.plain_state.specs.declared.slot.SlotId.{SlotId}
-use Rattle.plain_state.specs.State.{Plain}
-use Rattle.core_events.specs.declared.view.CoreView.{CoreView}
-use Rattle.core_events.specs.declared.view.Move.{Move}
-use Rattle.core_events.specs.declared.view.Note.TheVariants as note
-use Rattle.core_events.specs.Steps.{with_note}
-use Rattle.domain_rule.specs.Views.{object_in}
-use Rattle.acquire_retire.specs.Seats.{SeatState}
-use Rattle.directory_law.specs.declared.view.Ran.{Ran}
-use Rattle.directory_law.specs.declared.view.View.{View}
-use Rattle.directory_law.specs.Lessons.{ReadTells, first_ran, reads_on}
-use Rattle.directory_law.specs.Payloads.{Text, IsText}
-use Rattle.directory_law.specs.Views.{In}
+use Rattle.snapshot_ptr.specs.plain_state.declared.slot.SlotId.{SlotId}
+use Rattle.snapshot_ptr.specs.plain_state.State.{Plain}
+use Rattle.slot_store.specs.core_events.declared.view.CoreView.{CoreView}
+use Rattle.slot_store.specs.core_events.declared.view.Move.{Move}
+use Rattle.slot_store.specs.core_events.declared.view.Note.TheVariants as note
+use Rattle.slot_store.specs.core_events.Steps.{with_note}
+use Rattle.slot_store.specs.domain_rule.Views.{object_in}
+use Rattle.slot_store.specs.acquire_retire.Seats.{SeatState}
+use Rattle.directory_calls.specs.directory_law.declared.view.Ran.{Ran}
+use Rattle.directory_calls.specs.directory_law.declared.view.View.{View}
+use Rattle.directory_calls.specs.directory_law.Lessons.{ReadTells, first_ran, reads_on}
+use Rattle.directory_calls.specs.directory_law.Payloads.{Text, IsText}
+use Rattle.directory_calls.specs.directory_law.Views.{In}
 
 -- by n moves a seat came from u to have v, but for its trail
 abbrev pub ComesTo : ℕ → CoreView → CoreView → CoreView → Type 0

@@ -1,16 +1,16 @@
 -- What it means to have read a text.
 use Rattle.std.specs.Prelude.{ℕ, ◌≡◌, ◌<◌, List, [], ◌∷◌}
-use Rattle.plain_state.specs.declared.slot.SlotId.{SlotId}
-use Rattle.core_events.specs.declared.view.CoreView.{CoreView}
-use Rattle.core_events.specs.declared.view.Note.TheVariants as note
-use Rattle.core_events.specs.Views.{note_of}
-use Rattle.domain_rule.specs.Views.{object_in}
-use Rattle.acquire_retire.specs.Seats.{SeatState}
-use Rattle.directory_law.specs.declared.view.Ran.{Ran}
-use Rattle.directory_law.specs.declared.view.View.{View}
-use Rattle.directory_law.specs.Payloads.{Text, IsText}
-use Rattle.directory_law.specs.Bytes.{text_bytes}
-use Rattle.directory_law.specs.Views.{Each}
+use Rattle.snapshot_ptr.specs.plain_state.declared.slot.SlotId.{SlotId}
+use Rattle.slot_store.specs.core_events.declared.view.CoreView.{CoreView}
+use Rattle.slot_store.specs.core_events.declared.view.Note.TheVariants as note
+use Rattle.slot_store.specs.core_events.Views.{note_of}
+use Rattle.slot_store.specs.domain_rule.Views.{object_in}
+use Rattle.slot_store.specs.acquire_retire.Seats.{SeatState}
+use Rattle.directory_calls.specs.directory_law.declared.view.Ran.{Ran}
+use Rattle.directory_calls.specs.directory_law.declared.view.View.{View}
+use Rattle.directory_calls.specs.directory_law.Payloads.{Text, IsText}
+use Rattle.directory_calls.specs.directory_law.Bytes.{text_bytes}
+use Rattle.directory_calls.specs.directory_law.Views.{Each}
 
 -- the payload of s is read, as the seat has it
 abbrev pub begun : {V : Type 0} → SlotId → SeatState V → Ran

@@ -1,6 +1,6 @@
 //! The bytes of payloads, put into a buffer.
 ghost use Rattle.std.specs.Prelude.{◌≡◌, ◌≤◌, ◌+◌, ◌++◌, take};
-ghost use Rattle.directory_law.specs.Bytes.{low_bytes, piece_bytes};
+ghost use Rattle.directory_calls.specs.directory_law.Bytes.{low_bytes, piece_bytes};
 
 /// Puts so many bytes that a payload holds behind the first `from` bytes of `out`, which stay.
 pub(crate) fn put_payload(payload: &[u64; 16], count: u32, out: &mut [u8; 4096], from: u32)

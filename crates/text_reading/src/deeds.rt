@@ -1,11 +1,11 @@
 //! The deed by which a part is read.
-ghost use Rattle.directory_law.specs.Cells.{area};
-ghost use Rattle.directory_law.specs.Lessons.{ReadReady, read_next};
+ghost use Rattle.directory_calls.specs.directory_law.Cells.{area};
+ghost use Rattle.directory_calls.specs.directory_law.Lessons.{ReadReady, read_next};
 ghost use Rattle.text_reading.specs.Going.{PartTells};
 ghost use Rattle.text_reading.specs.Deeds.{part_keeps};
 
-use directory_protocol::DirectoryLaw;
-use plain_protocol::Deed;
+use directory_calls::DirectoryLaw;
+use snapshot_ptr::Deed;
 
 /// A check of field 1 of the slot that was read last, as with `ReadOn`. It tells also that each
 /// text that the seat has begun to read goes on to a whole one.

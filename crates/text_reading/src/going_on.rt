@@ -1,24 +1,22 @@
 //! From one slot of a text to the next, hand over hand.
 ghost use Rattle.std.specs.Prelude.{ℕ, ◌≡◌, ◌≢◌, ◌+◌, ◌<◌, length, None, Some};
-ghost use Rattle.plain_state.specs.Limits.{words_of_seat};
-ghost use Rattle.plain_state.specs.declared.slot.Kind.TheVariants.{Strong};
-ghost use Rattle.core_events.specs.declared.view.Note.TheVariants as stands;
-ghost use Rattle.core_events.specs.Steps.{with_note};
-ghost use Rattle.core_events.specs.Views.{HoldsStrongly, note_of};
-ghost use Rattle.acquire_retire.specs.Notes.{least_free};
-ghost use Rattle.control_word.specs.Moves.{KnowsStill};
-ghost use Rattle.control_word.specs.Resting.{IsAtRest};
-ghost use Rattle.directory_law.specs.Payloads.{IsText};
+ghost use Rattle.snapshot_ptr.specs.plain_state.Limits.{words_of_seat};
+ghost use Rattle.snapshot_ptr.specs.plain_state.declared.slot.Kind.TheVariants.{Strong};
+ghost use Rattle.slot_store.specs.core_events.declared.view.Note.TheVariants as stands;
+ghost use Rattle.slot_store.specs.core_events.Steps.{with_note};
+ghost use Rattle.slot_store.specs.core_events.Views.{HoldsStrongly, note_of};
+ghost use Rattle.slot_store.specs.acquire_retire.Notes.{least_free};
+ghost use Rattle.slot_store.specs.control_word.Moves.{KnowsStill};
+ghost use Rattle.slot_store.specs.control_word.Resting.{IsAtRest};
+ghost use Rattle.directory_calls.specs.directory_law.Payloads.{IsText};
 ghost use Rattle.directory_calls.specs.Learning.{LearnsIn};
 ghost use Rattle.snapshot_ptr.specs.Handles.{IsHeldBy};
 ghost use Rattle.text_reading.specs.Going.{ComesTo, IsReading, ReadsOn, freed, last_run, one_if};
 
 use crate::deeds::ReadPart;
-use acquire_retire::{Domain, EventPlace, Outcome, Seat, SlotId};
-use directory_protocol::{DirectoryLaw, HasDirectory, LeadOn};
-use plain_protocol::Protocol;
-use plain_state::Kind;
-use protocol_pairs::InPart;
+use directory_calls::{DirectoryLaw, HasDirectory, LeadOn};
+use slot_store::{Domain, EventPlace, InPart, Outcome, Seat};
+use snapshot_ptr::{Kind, Protocol, SlotId};
 
 /// A slot that the seat holds strongly, and the announcement word by which it does so; none where
 /// it owns a reference.

@@ -1,12 +1,11 @@
 //! What the bytes that were read tell of a text.
 ghost use Rattle.std.specs.Prelude.{ℕ, List};
-ghost use Rattle.directory_law.specs.Bytes.{IsPiece, IsTextOf};
-ghost use Rattle.directory_law.specs.Payloads.{IsOwn, IsText, Text};
+ghost use Rattle.directory_calls.specs.directory_law.Bytes.{IsPiece, IsTextOf};
+ghost use Rattle.directory_calls.specs.directory_law.Payloads.{IsOwn, IsText, Text};
 ghost use Rattle.text_reading.specs.Reading.{AreBytesOf};
 
-use directory_protocol::RecordKind;
-use plain_state::PayloadKind;
-use protocol_pairs::PairKind;
+use directory_calls::{PairKind, RecordKind};
+use snapshot_ptr::PayloadKind;
 
 /// Where what fits a kind and is a directory's is the payload of a head or of a part, the bytes
 /// that were read have the text that was read. The call does nothing.

@@ -26,8 +26,6 @@ mod going_on;
 mod laws;
 mod payloads;
 mod reading;
-#[cfg(test)]
-mod tests;
 
 pub use deeds::ReadPart;
 pub use laws::{bytes_have_their_text, pairs_have_pieces};

@@ -1,14 +1,13 @@
 //! The payload of an object, as a seat that holds its slot reads it.
 ghost use Rattle.std.specs.Prelude.{◌≡◌, length};
-ghost use Rattle.core_events.specs.Views.{HoldsStrongly};
-ghost use Rattle.domain_rule.specs.Views.{object_in};
-ghost use Rattle.control_word.specs.Moves.{KnowsStill};
-ghost use Rattle.control_word.specs.Resting.{IsAtRest};
+ghost use Rattle.slot_store.specs.core_events.Views.{HoldsStrongly};
+ghost use Rattle.slot_store.specs.domain_rule.Views.{object_in};
+ghost use Rattle.slot_store.specs.control_word.Moves.{KnowsStill};
+ghost use Rattle.slot_store.specs.control_word.Resting.{IsAtRest};
 ghost use Rattle.text_reading.specs.Going.{ComesTo};
 
-use acquire_retire::{Domain, Seat, SlotId};
-use plain_protocol::Protocol;
-use slot_store::read;
+use slot_store::{Domain, Seat, read};
+use snapshot_ptr::{Protocol, SlotId};
 
 /// The payload of the object in a slot that the seat holds strongly, in 16 steps.
 pub(crate) fn payload_of<P: Protocol>(

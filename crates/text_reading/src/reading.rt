@@ -1,10 +1,10 @@
 //! The text of a record.
 ghost use Rattle.std.specs.Prelude.{◌≡◌, ◌+◌, ◌<◌, ◌≤◌, length, slice_index, take};
-ghost use Rattle.plain_state.specs.Lists.{times};
-ghost use Rattle.core_events.specs.Steps.{HasRoom};
-ghost use Rattle.domain_rule.specs.Views.{object_in};
-ghost use Rattle.control_word.specs.Resting.{IsAtRest};
-ghost use Rattle.directory_law.specs.Payloads.{IsHead, Text};
+ghost use Rattle.snapshot_ptr.specs.plain_state.Lists.{times};
+ghost use Rattle.slot_store.specs.core_events.Steps.{HasRoom};
+ghost use Rattle.slot_store.specs.domain_rule.Views.{object_in};
+ghost use Rattle.slot_store.specs.control_word.Resting.{IsAtRest};
+ghost use Rattle.directory_calls.specs.directory_law.Payloads.{IsHead, Text};
 ghost use Rattle.directory_calls.specs.Learning.{LearnsIn};
 ghost use Rattle.directory_calls.specs.Steps.{Leaves};
 ghost use Rattle.text_reading.specs.Reading.{AreBytesOf, HasBegun, HasRead, HasTwoFree};
@@ -12,8 +12,9 @@ ghost use Rattle.text_reading.specs.Reading.{AreBytesOf, HasBegun, HasRead, HasT
 use crate::copying::put_payload;
 use crate::going_on::{Hold, go_on, let_go};
 use crate::payloads::payload_of;
-use acquire_retire::{Domain, Seat, SlotId};
-use directory_protocol::HasDirectory;
+use directory_calls::HasDirectory;
+use slot_store::{Domain, Seat};
+use snapshot_ptr::SlotId;
 
 /// Reads the text of the record in a slot that the seat owns strongly, of which it has begun to
 /// read the head, and puts its bytes, 1 to 4,096, at the begin of `out`. The result is their

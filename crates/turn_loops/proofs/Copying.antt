@@ -1,13 +1,13 @@
 -- A reference that is copied stays the seat's when the copy has gone.
 use Rattle.std.proofs.Common.{◌≡◌, ℕ, ◌<◌, List, refl, arith, subst}
-use Rattle.plain_state.specs.declared.slot.SlotId.{SlotId}
-use Rattle.plain_state.specs.Lists.{times}
-use Rattle.acquire_retire.specs.Calls.{IsSameView, same_view}
-use Rattle.acquire_retire.specs.Domains.{DomainState}
-use Rattle.acquire_retire.specs.Seats.{SeatState}
-use Rattle.control_word.specs.Calls.{DropsStrong, GainsStrong}
-use Rattle.control_word.specs.Trials.{Owns}
-use Rattle.control_word.proofs.Owning.{one_strong_fewer, one_strong_more}
+use Rattle.snapshot_ptr.specs.plain_state.declared.slot.SlotId.{SlotId}
+use Rattle.snapshot_ptr.specs.plain_state.Lists.{times}
+use Rattle.slot_store.specs.acquire_retire.Calls.{IsSameView, same_view}
+use Rattle.slot_store.specs.acquire_retire.Domains.{DomainState}
+use Rattle.slot_store.specs.acquire_retire.Seats.{SeatState}
+use Rattle.slot_store.specs.control_word.Calls.{DropsStrong, GainsStrong}
+use Rattle.slot_store.specs.control_word.Trials.{Owns}
+use Rattle.slot_store.proofs.Below.control_word.Owning.{one_strong_fewer, one_strong_more}
 
 module _ {P V : Type 0} {fits : List ℕ → Type 0} (d : DomainState P) (s copy : SlotId)
     (same : copy ≡ s) (old mid new : SeatState V) where

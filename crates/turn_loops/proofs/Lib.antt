@@ -1,2 +1,3 @@
+pub mod Below
 pub mod Copying
 pub mod Placings

@@ -9,10 +9,10 @@ use Rattle.turn_loops.specs.declared.placing.Placing.{Placing}
 use Rattle.turn_loops.specs.declared.placing.Placing.TheVariants.{Neighbours, Spaced}
 use Rattle.std.specs.Prelude.{All}
 use Rattle.std.proofs.lemmas.List.Elements.{All-get_or}
-use Rattle.core_law.proofs.Each.{get_each, length_each}
-use Rattle.acquire_retire.specs.Domains.{DomainState}
-use Rattle.acquire_retire.specs.Openings.{begun_seat, opened_seats}
-use Rattle.acquire_retire.specs.Seats.{SeatState}
+use Rattle.slot_store.proofs.Below.core_law.Each.{get_each, length_each}
+use Rattle.slot_store.specs.acquire_retire.Domains.{DomainState}
+use Rattle.slot_store.specs.acquire_retire.Openings.{begun_seat, opened_seats}
+use Rattle.slot_store.specs.acquire_retire.Seats.{SeatState}
 use Rattle.turn_loops.specs.Placings.{AreOfThreads, ArePlaced, AreSeats, number_of}
 
 -- n threads have their seats, and the seats up to the next thread's are left

@@ -1,6 +1,6 @@
 -- Which of a domain's seats each thread has.
 use Rattle.std.specs.Prelude.{ℕ, ◌≡◌, ◌*◌, ◌-◌, ◌<◌, List, length, slice_index_or}
-use Rattle.acquire_retire.specs.Seats.{SeatState}
+use Rattle.slot_store.specs.acquire_retire.Seats.{SeatState}
 use Rattle.turn_loops.specs.declared.placing.Placing.{Placing}
 use Rattle.turn_loops.specs.declared.placing.Placing.TheVariants.{Neighbours, Spaced}
 

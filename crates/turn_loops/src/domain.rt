@@ -5,10 +5,8 @@ ghost use Rattle.turn_loops.specs.Placings.{AreOfThreads};
 ghost use Rattle.turn_loops.specs.Trials.{weightless};
 
 use crate::placing::{Placing, take_placed};
-use acquire_retire::{Domain, OpenError, Quota, Seat, Shape, open_domain};
-use out_of_memory::OutOfMemory;
-use plain_protocol::NoLaw;
-use plain_state::PayloadKind;
+use slot_store::{Domain, Seat};
+use snapshot_ptr::{NoLaw, OpenError, OutOfMemory, PayloadKind, Quota, Shape, open_domain};
 use std::alloc::Global;
 
 /// Objects with whatever payload, which weigh nothing.

@@ -24,4 +24,8 @@ mod weak_turns;
 pub use domain::{AnyPayload, Objects, Opened, open};
 pub use operation::{OPERATIONS, Operation};
 pub use placing::{Placing, take_placed};
+pub use slot_store::{Deleter, Domain, Seat, make, reap};
+pub use snapshot_ptr::{
+    OpenError, OutOfMemory, Quota, Shape, collect, copy_strong, drop_strong, open_domain,
+};
 pub use turns::{begin, make_turns};

@@ -2,7 +2,7 @@
 ghost use Rattle.std.specs.Prelude.{◌≡◌, ◌*◌, ◌<◌, ◌≤◌, IfOk, length, slice_index_or};
 ghost use Rattle.turn_loops.specs.Placings.{ArePlaced, number_of};
 
-use out_of_memory::OutOfMemory;
+use snapshot_ptr::OutOfMemory;
 use std::alloc::Global;
 
 /// Which seat each thread has.

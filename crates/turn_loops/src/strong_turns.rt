@@ -1,18 +1,12 @@
 //! Turns with strong references, on cell 0.
 ghost use Rattle.std.specs.Prelude.{◌<◌};
-ghost use Rattle.plain_state.specs.Lists.{times};
-ghost use Rattle.core_events.specs.Steps.{HasRoom};
-ghost use Rattle.control_word.specs.Resting.{IsAtRest};
+ghost use Rattle.snapshot_ptr.specs.plain_state.Lists.{times};
+ghost use Rattle.slot_store.specs.core_events.Steps.{HasRoom};
+ghost use Rattle.slot_store.specs.control_word.Resting.{IsAtRest};
 
 use crate::domain::{AnyPayload, Objects};
-use acquire_retire::{Domain, Seat};
-use atomic_shared::{Place, load, store};
-use control_word::{copy_strong, drop_strong};
-use counted_handles::Strong;
-use deleter::Deleter;
-use plain_protocol::AnyStep;
-use slot_store::{make, reap};
-use snapshot_ptr::{end, snapshot};
+use slot_store::{Deleter, Domain, Seat, make, reap};
+use snapshot_ptr::{AnyStep, Place, Strong, copy_strong, drop_strong, end, load, snapshot, store};
 use std::sync::Wait;
 
 /// The cell that all threads share.

@@ -6,10 +6,8 @@ use crate::domain::Objects;
 use crate::operation::Operation;
 use crate::strong_turns::{CELL, copies, loads, makes, snapshots, stores};
 use crate::weak_turns::upgrades;
-use acquire_retire::{Domain, Seat};
-use atomic_shared::store;
-use plain_protocol::AnyStep;
-use slot_store::make;
+use slot_store::{Domain, Seat, make};
+use snapshot_ptr::{AnyStep, store};
 use std::sync::Wait;
 
 /// Puts an object into the cell that all threads share.

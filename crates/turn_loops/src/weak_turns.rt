@@ -1,16 +1,13 @@
 //! Turns with a weak reference to what cell 0 holds.
 ghost use Rattle.std.specs.Prelude.{◌<◌, IfSome};
-ghost use Rattle.plain_state.specs.Lists.{times};
-ghost use Rattle.core_events.specs.Steps.{HasRoom};
-ghost use Rattle.control_word.specs.Resting.{IsAtRest};
+ghost use Rattle.snapshot_ptr.specs.plain_state.Lists.{times};
+ghost use Rattle.slot_store.specs.core_events.Steps.{HasRoom};
+ghost use Rattle.slot_store.specs.control_word.Resting.{IsAtRest};
 
 use crate::domain::Objects;
 use crate::strong_turns::CELL;
-use acquire_retire::{Domain, Seat};
-use atomic_shared::load;
-use control_word::{drop_strong, drop_weak, upgrade, weaken};
-use counted_handles::Weak;
-use plain_protocol::AnyStep;
+use slot_store::{Domain, Seat};
+use snapshot_ptr::{AnyStep, Weak, drop_strong, drop_weak, load, upgrade, weaken};
 use std::sync::Wait;
 
 /// A weak reference to what the cell holds.

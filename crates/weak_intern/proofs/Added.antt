@@ -2,34 +2,34 @@
 use Rattle.std.proofs.Common.{◌≡◌, inl, inr, ⊎_elim, ℕ, ◌+◌, ◌<◌, ◌≤◌, List, [], ◌∷◌, ◌++◌, true, refl, sym, ap, subst, ◌∙◌, arith, Some, None}
 use Rattle.std.specs.Prelude.{◌⊎◌, Err, IfOk, IsErr, IsErrAnd, Ok, OnErr, Option, Result}
 use Rattle.std.proofs.lemmas.Result.{err_from_is_err_and}
-use Rattle.plain_protocol.specs.Owns.{Object}
-use Rattle.domain_rule.specs.Views.{object_in}
-use Rattle.directory_law.specs.declared.view.Ran.{Ran}
-use Rattle.directory_law.specs.Views.{In, rope}
-use Rattle.directory_law.specs.Payloads.{IsText}
+use Rattle.atomic_weak.specs.plain_protocol.Owns.{Object}
+use Rattle.atomic_weak.specs.domain_rule.Views.{object_in}
+use Rattle.record_making.specs.directory_law.declared.view.Ran.{Ran}
+use Rattle.record_making.specs.directory_law.Views.{In, rope}
+use Rattle.record_making.specs.directory_law.Payloads.{IsText}
 use Rattle.atomic_weak.specs.Places.{named}
-use Rattle.counted_handles.specs.Handles.{Handle}
-use Rattle.plain_state.specs.declared.slot.SlotId.{SlotId}
-use Rattle.plain_state.specs.Lists.{times}
-use Rattle.core_events.specs.Counts.{one}
-use Rattle.core_events.specs.Views.{without}
-use Rattle.core_law.proofs.Kit.{one_same, times_push, times_without}
-use Rattle.acquire_retire.specs.Domains.{DomainState}
-use Rattle.acquire_retire.specs.Seats.{SeatState}
-use Rattle.directory_law.specs.declared.view.View.{View}
-use Rattle.directory_law.specs.Cells.{Area}
-use Rattle.directory_law.specs.Law.{IsBound}
-use Rattle.directory_calls.specs.Directories.{CanCount}
+use Rattle.atomic_weak.specs.counted_handles.Handles.{Handle}
+use Rattle.atomic_weak.specs.plain_state.declared.slot.SlotId.{SlotId}
+use Rattle.atomic_weak.specs.plain_state.Lists.{times}
+use Rattle.atomic_weak.specs.core_events.Counts.{one}
+use Rattle.atomic_weak.specs.core_events.Views.{without}
+use Rattle.atomic_weak.proofs.Below.core_law.Kit.{one_same, times_push, times_without}
+use Rattle.atomic_weak.specs.acquire_retire.Domains.{DomainState}
+use Rattle.atomic_weak.specs.acquire_retire.Seats.{SeatState}
+use Rattle.record_making.specs.directory_law.declared.view.View.{View}
+use Rattle.record_making.specs.directory_law.Cells.{Area}
+use Rattle.record_making.specs.directory_law.Law.{IsBound}
+use Rattle.record_making.specs.directory_calls.Directories.{CanCount}
 use Rattle.weak_intern.specs.Interning.{Grows, HasPassed, Places, interned_by, named_or, placed_by}
 use Rattle.record_making.specs.Making.{HasNotedLast, Notes, NotesOnly, candidate_in, with_notes}
-use Rattle.directory_law.specs.Payloads.{Text}
+use Rattle.record_making.specs.directory_law.Payloads.{Text}
 use Rattle.weak_intern.specs.Knowing.{Knows}
-use Rattle.directory_calls.specs.Steps.{Leaves, with_found}
+use Rattle.record_making.specs.directory_calls.Steps.{Leaves, with_found}
 use Rattle.weak_intern.specs.Walking.{found_by}
-use Rattle.directory_calls.proofs.Going.{holds_by, leaves_as, leaves_then, seat_same, some_earlier, some_later}
-use Rattle.directory_calls.proofs.Parts.{Place}
+use Rattle.record_making.proofs.Below.directory_calls.Going.{holds_by, leaves_as, leaves_then, seat_same, some_earlier, some_later}
+use Rattle.record_making.proofs.Below.directory_calls.Parts.{Place}
 use Rattle.weak_intern.proofs.Placed.{GrowsBy, grow_then, lift_grows}
-use Rattle.directory_law.specs.declared.view.Rope.{Rope}
+use Rattle.record_making.specs.directory_law.declared.view.Rope.{Rope}
 
 -- a view with other notes has used nothing
 notes_grows : (es : List Rope) (v : View) → Grows 0 v (with_notes es v)

@@ -1,22 +1,22 @@
 -- What a walk came to, of the bytes of its text.
 use Rattle.std.proofs.Common.{◌≡◌, List, ℕ, subst}
-use Rattle.plain_state.specs.declared.slot.SlotId.{SlotId}
-use Rattle.acquire_retire.specs.Domains.{DomainState}
-use Rattle.acquire_retire.specs.Seats.{SeatState}
-use Rattle.directory_law.specs.declared.view.View.{View}
-use Rattle.directory_law.specs.Bytes.{IsTextOf}
-use Rattle.directory_law.specs.Payloads.{Text}
-use Rattle.directory_law.specs.Cells.{Area}
-use Rattle.directory_law.specs.Law.{IsBound, NoneBound}
-use Rattle.directory_law.proofs.Bytes.{one_text}
+use Rattle.atomic_weak.specs.plain_state.declared.slot.SlotId.{SlotId}
+use Rattle.atomic_weak.specs.acquire_retire.Domains.{DomainState}
+use Rattle.atomic_weak.specs.acquire_retire.Seats.{SeatState}
+use Rattle.record_making.specs.directory_law.declared.view.View.{View}
+use Rattle.record_making.specs.directory_law.Bytes.{IsTextOf}
+use Rattle.record_making.specs.directory_law.Payloads.{Text}
+use Rattle.record_making.specs.directory_law.Cells.{Area}
+use Rattle.record_making.specs.directory_law.Law.{IsBound, NoneBound}
+use Rattle.record_making.proofs.Below.directory_law.Bytes.{one_text}
 use Rattle.weak_intern.specs.declared.walking.Walk.{Walk}
 use Rattle.weak_intern.specs.declared.walking.Walk.TheVariants as walk
-use Rattle.directory_calls.specs.Directories.{HasNoRecord, IsRecord}
-use Rattle.directory_calls.specs.Steps.{AfterStep, AtStep}
-use Rattle.counted_handles.specs.Handles.{Handle}
+use Rattle.record_making.specs.directory_calls.Directories.{HasNoRecord, IsRecord}
+use Rattle.record_making.specs.directory_calls.Steps.{AfterStep, AtStep}
+use Rattle.atomic_weak.specs.counted_handles.Handles.{Handle}
 use Rattle.weak_intern.specs.Knowing.{KnowsRecord}
 use Rattle.weak_intern.specs.Walking.{ComesTo}
-use Rattle.directory_calls.proofs.Going.{also, also_some}
+use Rattle.record_making.proofs.Below.directory_calls.Going.{also, also_some}
 
 module _ {P V : Type 0} (d : DomainState P) (z : Area) (bytes : List ℕ) (text : Text)
     (is : IsTextOf bytes text) (a b : SeatState V) where

@@ -1,54 +1,54 @@
 -- What a compare and exchange with the deed BindHead asks, and what it leaves.
 use Rattle.std.proofs.Common.{◌≡◌, ⊎_elim, inr, ℕ, ◌+◌, ◌<◌, Bool, true, false, List, [], ◌∷◌, ◌++◌, refl, ap, sym, ◌∙◌, subst, arith, append_assoc, Some, None}
 use Rattle.std.specs.Prelude.{◌==◌, ◌≢◌, Option, if◌then◌else◌}
-use Rattle.plain_state.specs.declared.act.EventPlace.TheVariants.{WeakCell}
-use Rattle.plain_state.specs.declared.act.PlainAct.{PlainAct}
-use Rattle.plain_state.specs.declared.act.PlainAct.TheVariants as plain
-use Rattle.plain_state.specs.declared.slot.Kind.TheVariants.{Weak}
-use Rattle.plain_state.specs.declared.slot.SlotId.{SlotId}
-use Rattle.plain_state.specs.Lists.{times}
-use Rattle.plain_state.specs.State.{Plain}
-use Rattle.plain_protocol.specs.Acts.{Owned}
-use Rattle.plain_protocol.specs.Owns.{HasSlot, Object, OwnPart}
-use Rattle.protocol_pairs.specs.Parts.{Accepts, Frees}
-use Rattle.core_events.specs.declared.act.Act.TheVariants as act
-use Rattle.core_events.specs.declared.outcome.Outcome.TheVariants as outcome
-use Rattle.core_events.specs.declared.view.CoreView.{CoreView}
-use Rattle.core_events.specs.declared.view.Move.{Move}
-use Rattle.core_events.specs.Runs.{after}
-use Rattle.core_events.specs.Shows.{show_seat, shows}
-use Rattle.core_events.specs.Steps.{without_given}
-use Rattle.core_events.specs.Views.{Holds, without}
-use Rattle.core_events.specs.Words.{slot_in}
-use Rattle.core_law.proofs.Kit.{one_same, times_push, times_without}
-use Rattle.domain_rule.specs.Views.{object_in, own_of}
-use Rattle.acquire_retire.specs.Collecting.{move}
-use Rattle.acquire_retire.specs.Calls.{IsReady, IsSameView, same_view}
-use Rattle.acquire_retire.specs.Domains.{DomainState}
-use Rattle.acquire_retire.specs.Seats.{SeatState}
-use Rattle.control_word.specs.Calls.{DropsWeak, GainsWeak, weakly_dropped_by, with_weak, without_weak}
-use Rattle.control_word.specs.Moves.{KnowsStill}
-use Rattle.protected_loads.proofs.Telling.{holds_has}
-use Rattle.retiring_stores.specs.Exchanging.{LosesTo, Replaces}
-use Rattle.retiring_stores.specs.Scanning.{ScansWhereDue}
-use Rattle.directory_law.specs.declared.view.Rope.{Rope}
-use Rattle.directory_law.specs.declared.view.View.{View}
-use Rattle.directory_law.specs.Cells.{Area, on}
-use Rattle.directory_law.specs.Law.{IsBound}
-use Rattle.directory_law.specs.Making.{BindReady, BindTells, bind_next, bound, first_noted}
-use Rattle.directory_law.specs.Steps.{life_in}
-use Rattle.directory_law.specs.Views.{rope}
-use Rattle.directory_law.specs.Walks.{Walked}
-use Rattle.directory_protocol.specs.Keeping.{KeepsAll, MindsNone}
-use Rattle.directory_calls.specs.Directories.{CanCount}
+use Rattle.atomic_weak.specs.plain_state.declared.act.EventPlace.TheVariants.{WeakCell}
+use Rattle.atomic_weak.specs.plain_state.declared.act.PlainAct.{PlainAct}
+use Rattle.atomic_weak.specs.plain_state.declared.act.PlainAct.TheVariants as plain
+use Rattle.atomic_weak.specs.plain_state.declared.slot.Kind.TheVariants.{Weak}
+use Rattle.atomic_weak.specs.plain_state.declared.slot.SlotId.{SlotId}
+use Rattle.atomic_weak.specs.plain_state.Lists.{times}
+use Rattle.atomic_weak.specs.plain_state.State.{Plain}
+use Rattle.atomic_weak.specs.plain_protocol.Acts.{Owned}
+use Rattle.atomic_weak.specs.plain_protocol.Owns.{HasSlot, Object, OwnPart}
+use Rattle.record_making.specs.protocol_pairs.Parts.{Accepts, Frees}
+use Rattle.atomic_weak.specs.core_events.declared.act.Act.TheVariants as act
+use Rattle.atomic_weak.specs.core_events.declared.outcome.Outcome.TheVariants as outcome
+use Rattle.atomic_weak.specs.core_events.declared.view.CoreView.{CoreView}
+use Rattle.atomic_weak.specs.core_events.declared.view.Move.{Move}
+use Rattle.atomic_weak.specs.core_events.Runs.{after}
+use Rattle.atomic_weak.specs.core_events.Shows.{show_seat, shows}
+use Rattle.atomic_weak.specs.core_events.Steps.{without_given}
+use Rattle.atomic_weak.specs.core_events.Views.{Holds, without}
+use Rattle.atomic_weak.specs.core_events.Words.{slot_in}
+use Rattle.atomic_weak.proofs.Below.core_law.Kit.{one_same, times_push, times_without}
+use Rattle.atomic_weak.specs.domain_rule.Views.{object_in, own_of}
+use Rattle.atomic_weak.specs.acquire_retire.Collecting.{move}
+use Rattle.atomic_weak.specs.acquire_retire.Calls.{IsReady, IsSameView, same_view}
+use Rattle.atomic_weak.specs.acquire_retire.Domains.{DomainState}
+use Rattle.atomic_weak.specs.acquire_retire.Seats.{SeatState}
+use Rattle.atomic_weak.specs.control_word.Calls.{DropsWeak, GainsWeak, weakly_dropped_by, with_weak, without_weak}
+use Rattle.atomic_weak.specs.control_word.Moves.{KnowsStill}
+use Rattle.atomic_weak.proofs.Below.protected_loads.Telling.{holds_has}
+use Rattle.atomic_weak.specs.retiring_stores.Exchanging.{LosesTo, Replaces}
+use Rattle.atomic_weak.specs.retiring_stores.Scanning.{ScansWhereDue}
+use Rattle.record_making.specs.directory_law.declared.view.Rope.{Rope}
+use Rattle.record_making.specs.directory_law.declared.view.View.{View}
+use Rattle.record_making.specs.directory_law.Cells.{Area, on}
+use Rattle.record_making.specs.directory_law.Law.{IsBound}
+use Rattle.record_making.specs.directory_law.Making.{BindReady, BindTells, bind_next, bound, first_noted}
+use Rattle.record_making.specs.directory_law.Steps.{life_in}
+use Rattle.record_making.specs.directory_law.Views.{rope}
+use Rattle.record_making.specs.directory_law.Walks.{Walked}
+use Rattle.record_making.specs.directory_protocol.Keeping.{KeepsAll, MindsNone}
+use Rattle.record_making.specs.directory_calls.Directories.{CanCount}
 use Rattle.record_making.specs.Making.{HasNotedLast, candidate_in}
 use Rattle.weak_intern.specs.Interning.{ComesBy}
 use Rattle.weak_intern.specs.Races.{MissesCell}
-use Rattle.directory_law.specs.Payloads.{IsText, Text}
-use Rattle.directory_calls.specs.Steps.{AfterStep, GoesOn, Leaves, aside}
-use Rattle.directory_calls.proofs.Going.{goes_none, goes_then, holds_by, leaves_as, leaves_core, leaves_then, seat_same, some_earlier, some_later, some_step, step_goes, walks_go}
+use Rattle.record_making.specs.directory_law.Payloads.{IsText, Text}
+use Rattle.record_making.specs.directory_calls.Steps.{AfterStep, GoesOn, Leaves, aside}
+use Rattle.record_making.proofs.Below.directory_calls.Going.{goes_none, goes_then, holds_by, leaves_as, leaves_core, leaves_then, seat_same, some_earlier, some_later, some_step, step_goes, walks_go}
 use Rattle.record_making.proofs.Made.{own_life}
-use Rattle.directory_calls.proofs.Parts.{Place, lift_ready, lifts, tells}
+use Rattle.record_making.proofs.Below.directory_calls.Parts.{Place, lift_ready, lifts, tells}
 
 -- whether a compare and exchange that expects null found it
 is_done : (w : ℕ) (b : Bool) → (w == 0) ≡ b

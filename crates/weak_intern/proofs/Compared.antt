@@ -3,25 +3,25 @@ use Rattle.std.proofs.Common.{◌≡◌, ◌≢◌, ℕ, suc, ◌+◌, ◌-◌, 
 use Rattle.std.specs.Prelude.{slice_index}
 use Rattle.std.proofs.lemmas.List.{append-nil, get_or_default, same_lists}
 use Rattle.std.proofs.lemmas.Bool.{cases_lt}
-use Rattle.plain_protocol.specs.Owns.{HasSlot, Object}
-use Rattle.core_events.specs.declared.act.Act.TheVariants as act
-use Rattle.core_events.specs.declared.outcome.Outcome.TheVariants as outcome
-use Rattle.core_events.specs.declared.view.CoreView.{CoreView}
-use Rattle.core_events.specs.declared.view.Move.{Move}
-use Rattle.plain_state.specs.declared.slot.SlotId.{SlotId}
-use Rattle.core_events.specs.Shows.{show_seat}
-use Rattle.core_events.specs.Steps.{HasRoom}
-use Rattle.core_events.specs.Views.{Holds}
-use Rattle.domain_rule.specs.Views.{object_in}
-use Rattle.acquire_retire.specs.Collecting.{move}
-use Rattle.acquire_retire.specs.Domains.{DomainState}
-use Rattle.acquire_retire.specs.Seats.{SeatState}
-use Rattle.control_word.specs.Moves.{KnowsStill}
-use Rattle.control_word.specs.Resting.{IsAtRest}
-use Rattle.protected_loads.proofs.Telling.{holds_has}
-use Rattle.slot_store.specs.Calls.{SeesWord}
-use Rattle.directory_calls.specs.Steps.{Leaves}
-use Rattle.directory_calls.proofs.Going.{leaves_core}
+use Rattle.atomic_weak.specs.plain_protocol.Owns.{HasSlot, Object}
+use Rattle.atomic_weak.specs.core_events.declared.act.Act.TheVariants as act
+use Rattle.atomic_weak.specs.core_events.declared.outcome.Outcome.TheVariants as outcome
+use Rattle.atomic_weak.specs.core_events.declared.view.CoreView.{CoreView}
+use Rattle.atomic_weak.specs.core_events.declared.view.Move.{Move}
+use Rattle.atomic_weak.specs.plain_state.declared.slot.SlotId.{SlotId}
+use Rattle.atomic_weak.specs.core_events.Shows.{show_seat}
+use Rattle.atomic_weak.specs.core_events.Steps.{HasRoom}
+use Rattle.atomic_weak.specs.core_events.Views.{Holds}
+use Rattle.atomic_weak.specs.domain_rule.Views.{object_in}
+use Rattle.atomic_weak.specs.acquire_retire.Collecting.{move}
+use Rattle.atomic_weak.specs.acquire_retire.Domains.{DomainState}
+use Rattle.atomic_weak.specs.acquire_retire.Seats.{SeatState}
+use Rattle.atomic_weak.specs.control_word.Moves.{KnowsStill}
+use Rattle.atomic_weak.specs.control_word.Resting.{IsAtRest}
+use Rattle.atomic_weak.proofs.Below.protected_loads.Telling.{holds_has}
+use Rattle.record_making.specs.slot_store.Calls.{SeesWord}
+use Rattle.record_making.specs.directory_calls.Steps.{Leaves}
+use Rattle.record_making.proofs.Below.directory_calls.Going.{leaves_core}
 use Rattle.weak_intern.specs.Sighting.{Compares, compared_by}
 
 -- n words of the payload of s were read, and nothing else was done

@@ -1,39 +1,39 @@
 -- The step that answers a head whose whole text was read.
 use Rattle.std.proofs.Common.{◌≡◌, ℕ, ◌+◌, ◌<◌, List, ◌∷◌, refl, sym, ap, subst, ◌∙◌, arith, Some, None}
 use Rattle.std.specs.Prelude.{Bool, if◌then◌else◌}
-use Rattle.plain_state.specs.declared.act.EventPlace.{EventPlace}
-use Rattle.plain_state.specs.declared.act.PlainAct.{PlainAct}
-use Rattle.plain_state.specs.declared.act.PlainAct.TheVariants as plain
-use Rattle.plain_state.specs.declared.slot.SlotId.{SlotId}
-use Rattle.plain_state.specs.Lists.{times}
-use Rattle.plain_state.specs.State.{Plain}
-use Rattle.plain_protocol.specs.Acts.{Owned}
-use Rattle.plain_protocol.specs.Owns.{HasSlot, Object, OwnPart}
-use Rattle.protocol_pairs.specs.Parts.{Accepts, Frees}
-use Rattle.core_events.specs.declared.act.Act.TheVariants as act
-use Rattle.core_events.specs.declared.outcome.Outcome.{Outcome}
-use Rattle.core_events.specs.declared.view.CoreView.{CoreView}
-use Rattle.core_events.specs.Shows.{show_seat, shows}
-use Rattle.domain_rule.specs.Views.{object_in, own_of}
-use Rattle.acquire_retire.specs.Calls.{IsReady, Steps}
-use Rattle.acquire_retire.specs.Domains.{DomainState}
-use Rattle.acquire_retire.specs.Seats.{SeatState}
-use Rattle.control_word.specs.Resting.{IsAtRest}
-use Rattle.control_word.proofs.Becoming.{knows_after, one_step, rest_after}
-use Rattle.protected_loads.proofs.Telling.{holds_has}
-use Rattle.directory_law.specs.declared.view.Ran.{Ran}
-use Rattle.directory_law.specs.declared.view.View.{View}
-use Rattle.directory_law.specs.Views.{In}
-use Rattle.directory_law.specs.Cells.{Area}
-use Rattle.directory_law.specs.Law.{IsBound}
-use Rattle.directory_law.specs.Lessons.{AnswerReady, AnswerTells, HasSeen, answer_next, first_ran, spent}
-use Rattle.directory_law.specs.Payloads.{IsText, Text}
-use Rattle.directory_law.specs.Steps.{life_in, life_of, payload_in, payload_of}
-use Rattle.directory_protocol.specs.Keeping.{MindsNone}
-use Rattle.directory_calls.specs.Directories.{CanCount}
-use Rattle.directory_calls.specs.Steps.{AtStep, Leaves}
-use Rattle.directory_calls.proofs.Going.{at_step, leaves_core}
-use Rattle.directory_calls.proofs.Parts.{LearnsBy, Place, lift_learns, lift_ready, lifts, tells}
+use Rattle.atomic_weak.specs.plain_state.declared.act.EventPlace.{EventPlace}
+use Rattle.atomic_weak.specs.plain_state.declared.act.PlainAct.{PlainAct}
+use Rattle.atomic_weak.specs.plain_state.declared.act.PlainAct.TheVariants as plain
+use Rattle.atomic_weak.specs.plain_state.declared.slot.SlotId.{SlotId}
+use Rattle.atomic_weak.specs.plain_state.Lists.{times}
+use Rattle.atomic_weak.specs.plain_state.State.{Plain}
+use Rattle.atomic_weak.specs.plain_protocol.Acts.{Owned}
+use Rattle.atomic_weak.specs.plain_protocol.Owns.{HasSlot, Object, OwnPart}
+use Rattle.record_making.specs.protocol_pairs.Parts.{Accepts, Frees}
+use Rattle.atomic_weak.specs.core_events.declared.act.Act.TheVariants as act
+use Rattle.atomic_weak.specs.core_events.declared.outcome.Outcome.{Outcome}
+use Rattle.atomic_weak.specs.core_events.declared.view.CoreView.{CoreView}
+use Rattle.atomic_weak.specs.core_events.Shows.{show_seat, shows}
+use Rattle.atomic_weak.specs.domain_rule.Views.{object_in, own_of}
+use Rattle.atomic_weak.specs.acquire_retire.Calls.{IsReady, Steps}
+use Rattle.atomic_weak.specs.acquire_retire.Domains.{DomainState}
+use Rattle.atomic_weak.specs.acquire_retire.Seats.{SeatState}
+use Rattle.atomic_weak.specs.control_word.Resting.{IsAtRest}
+use Rattle.atomic_weak.proofs.Below.control_word.Becoming.{knows_after, one_step, rest_after}
+use Rattle.atomic_weak.proofs.Below.protected_loads.Telling.{holds_has}
+use Rattle.record_making.specs.directory_law.declared.view.Ran.{Ran}
+use Rattle.record_making.specs.directory_law.declared.view.View.{View}
+use Rattle.record_making.specs.directory_law.Views.{In}
+use Rattle.record_making.specs.directory_law.Cells.{Area}
+use Rattle.record_making.specs.directory_law.Law.{IsBound}
+use Rattle.record_making.specs.directory_law.Lessons.{AnswerReady, AnswerTells, HasSeen, answer_next, first_ran, spent}
+use Rattle.record_making.specs.directory_law.Payloads.{IsText, Text}
+use Rattle.record_making.specs.directory_law.Steps.{life_in, life_of, payload_in, payload_of}
+use Rattle.record_making.specs.directory_protocol.Keeping.{MindsNone}
+use Rattle.record_making.specs.directory_calls.Directories.{CanCount}
+use Rattle.record_making.specs.directory_calls.Steps.{AtStep, Leaves}
+use Rattle.record_making.proofs.Below.directory_calls.Going.{at_step, leaves_core}
+use Rattle.record_making.proofs.Below.directory_calls.Parts.{LearnsBy, Place, lift_learns, lift_ready, lifts, tells}
 use Rattle.text_reading.specs.Reading.{HasRead}
 use Rattle.weak_intern.specs.Seeing.{HasSeenIn}
 

@@ -2,9 +2,9 @@
 use Rattle.std.proofs.Common.{◌≡◌, ◌≢◌, ℕ, ◌+◌, Bool, true, false, List, [], ◌∷◌, ◌++◌, refl, sym, ap, ◌∙◌, append_assoc, arith, Some, None, inl, inr}
 use Rattle.std.specs.Prelude.{◌⊎◌, Option}
 use Rattle.std.proofs.lemmas.List.{append-nil}
-use Rattle.plain_state.specs.declared.slot.SlotId.{SlotId}
-use Rattle.core_events.specs.declared.view.CoreView.{CoreView}
-use Rattle.core_events.specs.declared.view.Move.{Move}
+use Rattle.atomic_weak.specs.plain_state.declared.slot.SlotId.{SlotId}
+use Rattle.atomic_weak.specs.core_events.declared.view.CoreView.{CoreView}
+use Rattle.atomic_weak.specs.core_events.declared.view.Move.{Move}
 use Rattle.weak_intern.specs.Costs.{PassesBy, dead_by, ended_in, moves_of}
 use Rattle.weak_intern.specs.Sighting.{Visit, Visits, visited_by, with_added}
 

@@ -1,24 +1,24 @@
 -- What a step on the word of tickets with the deed DrawTicket asks, and what it leaves.
 use Rattle.std.proofs.Common.{◌≡◌, ℕ, ◌+◌, List, [], ◌∷◌, ◌++◌, refl, sym, subst}
-use Rattle.plain_state.specs.declared.act.PlainAct.{PlainAct}
-use Rattle.plain_state.specs.declared.act.PlainAct.TheVariants as plain
-use Rattle.plain_protocol.specs.Owns.{OwnPart}
-use Rattle.protocol_pairs.specs.Parts.{Accepts}
-use Rattle.core_events.specs.declared.act.Act.TheVariants as act
-use Rattle.core_events.specs.declared.outcome.Outcome.{Outcome}
-use Rattle.core_events.specs.declared.outcome.Outcome.TheVariants as outcome
-use Rattle.core_events.specs.declared.view.CoreView.{CoreView}
-use Rattle.acquire_retire.specs.Calls.{IsReady, Steps}
-use Rattle.acquire_retire.specs.Domains.{DomainState}
-use Rattle.acquire_retire.specs.Seats.{SeatState}
-use Rattle.control_word.specs.Resting.{IsAtRest}
-use Rattle.control_word.proofs.Becoming.{knows_after, one_step, rest_after}
-use Rattle.protected_loads.proofs.Telling.{holds_has}
-use Rattle.directory_law.specs.declared.view.View.{View}
-use Rattle.directory_law.specs.Cells.{Area}
-use Rattle.directory_law.specs.Lessons.{DrawReady, DrawTells, draw_next, drawn}
-use Rattle.directory_protocol.specs.Keeping.{MindsNone}
-use Rattle.directory_calls.proofs.Parts.{Place, lifts, tells}
+use Rattle.atomic_weak.specs.plain_state.declared.act.PlainAct.{PlainAct}
+use Rattle.atomic_weak.specs.plain_state.declared.act.PlainAct.TheVariants as plain
+use Rattle.atomic_weak.specs.plain_protocol.Owns.{OwnPart}
+use Rattle.record_making.specs.protocol_pairs.Parts.{Accepts}
+use Rattle.atomic_weak.specs.core_events.declared.act.Act.TheVariants as act
+use Rattle.atomic_weak.specs.core_events.declared.outcome.Outcome.{Outcome}
+use Rattle.atomic_weak.specs.core_events.declared.outcome.Outcome.TheVariants as outcome
+use Rattle.atomic_weak.specs.core_events.declared.view.CoreView.{CoreView}
+use Rattle.atomic_weak.specs.acquire_retire.Calls.{IsReady, Steps}
+use Rattle.atomic_weak.specs.acquire_retire.Domains.{DomainState}
+use Rattle.atomic_weak.specs.acquire_retire.Seats.{SeatState}
+use Rattle.atomic_weak.specs.control_word.Resting.{IsAtRest}
+use Rattle.atomic_weak.proofs.Below.control_word.Becoming.{knows_after, one_step, rest_after}
+use Rattle.atomic_weak.proofs.Below.protected_loads.Telling.{holds_has}
+use Rattle.record_making.specs.directory_law.declared.view.View.{View}
+use Rattle.record_making.specs.directory_law.Cells.{Area}
+use Rattle.record_making.specs.directory_law.Lessons.{DrawReady, DrawTells, draw_next, drawn}
+use Rattle.record_making.specs.directory_protocol.Keeping.{MindsNone}
+use Rattle.record_making.proofs.Below.directory_calls.Parts.{Place, lifts, tells}
 use Rattle.weak_intern.specs.Drawing.{Draws}
 
 module _ {P V : Type 0} (fits : List ℕ → Type 0) (d : DomainState P) (l : Place V) (z : Area)

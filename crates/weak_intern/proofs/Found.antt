@@ -2,39 +2,39 @@
 use Rattle.std.proofs.Common.{◌≡◌, inr, ⊎_elim, ℕ, ◌++◌, ◌+◌, ◌%◌, ◌<◌, List, [], ◌∷◌, refl, sym, ap, subst, ◌∙◌, arith, Some, None}
 use Rattle.std.specs.Prelude.{Bool, Err, Option, Result, ◌≤◌}
 use Rattle.std.proofs.lemmas.Bool.{cases_lt}
-use Rattle.plain_state.specs.declared.act.EventPlace.TheVariants.{WeakCell}
-use Rattle.plain_state.specs.declared.slot.SlotId.{SlotId}
-use Rattle.plain_state.specs.Lists.{times}
-use Rattle.core_events.specs.declared.act.Act.TheVariants as act
-use Rattle.core_events.specs.declared.outcome.Outcome.{Outcome}
-use Rattle.core_events.specs.declared.view.CoreView.{CoreView}
-use Rattle.core_events.specs.Steps.{HasRoom}
-use Rattle.core_law.proofs.Kit.{times_push}
-use Rattle.acquire_retire.specs.Calls.{Steps}
-use Rattle.acquire_retire.specs.Domains.{DomainState}
-use Rattle.acquire_retire.specs.Seats.{SeatState}
-use Rattle.control_word.specs.Resting.{IsAtRest}
-use Rattle.control_word.proofs.Becoming.{knows_after, one_step, rest_after}
-use Rattle.counted_handles.specs.Handles.{Handle}
-use Rattle.directory_law.specs.declared.view.View.{View}
-use Rattle.directory_law.specs.Cells.{Area, on}
-use Rattle.directory_law.specs.Law.{IsBound, NoneBound}
-use Rattle.directory_law.specs.Lessons.{LookTells, look_next}
-use Rattle.directory_law.specs.Lessons.{spent}
-use Rattle.directory_law.specs.Payloads.{Text}
-use Rattle.directory_law.specs.Places.{text_hash}
-use Rattle.directory_law.specs.Walks.{FindsRoom, Passes, Walked}
+use Rattle.atomic_weak.specs.plain_state.declared.act.EventPlace.TheVariants.{WeakCell}
+use Rattle.atomic_weak.specs.plain_state.declared.slot.SlotId.{SlotId}
+use Rattle.atomic_weak.specs.plain_state.Lists.{times}
+use Rattle.atomic_weak.specs.core_events.declared.act.Act.TheVariants as act
+use Rattle.atomic_weak.specs.core_events.declared.outcome.Outcome.{Outcome}
+use Rattle.atomic_weak.specs.core_events.declared.view.CoreView.{CoreView}
+use Rattle.atomic_weak.specs.core_events.Steps.{HasRoom}
+use Rattle.atomic_weak.proofs.Below.core_law.Kit.{times_push}
+use Rattle.atomic_weak.specs.acquire_retire.Calls.{Steps}
+use Rattle.atomic_weak.specs.acquire_retire.Domains.{DomainState}
+use Rattle.atomic_weak.specs.acquire_retire.Seats.{SeatState}
+use Rattle.atomic_weak.specs.control_word.Resting.{IsAtRest}
+use Rattle.atomic_weak.proofs.Below.control_word.Becoming.{knows_after, one_step, rest_after}
+use Rattle.atomic_weak.specs.counted_handles.Handles.{Handle}
+use Rattle.record_making.specs.directory_law.declared.view.View.{View}
+use Rattle.record_making.specs.directory_law.Cells.{Area, on}
+use Rattle.record_making.specs.directory_law.Law.{IsBound, NoneBound}
+use Rattle.record_making.specs.directory_law.Lessons.{LookTells, look_next}
+use Rattle.record_making.specs.directory_law.Lessons.{spent}
+use Rattle.record_making.specs.directory_law.Payloads.{Text}
+use Rattle.record_making.specs.directory_law.Places.{text_hash}
+use Rattle.record_making.specs.directory_law.Walks.{FindsRoom, Passes, Walked}
 use Rattle.weak_intern.specs.declared.looking.Sight.{Sight}
 use Rattle.weak_intern.specs.declared.looking.Sight.TheVariants as sight
-use Rattle.directory_calls.specs.Learning.{LearnsIn}
-use Rattle.directory_calls.specs.Steps.{AtStep, Leaves, with_found}
+use Rattle.record_making.specs.directory_calls.Learning.{LearnsIn}
+use Rattle.record_making.specs.directory_calls.Steps.{AtStep, Leaves, with_found}
 use Rattle.weak_intern.specs.declared.walking.Walk.{Walk}
 use Rattle.weak_intern.specs.declared.walking.Walk.TheVariants as walk
 use Rattle.weak_intern.specs.Costs.{PassesBy, TakesBy}
 use Rattle.weak_intern.specs.Walking.{ComesTo, EndsAround, FoundBy, Meets, met, taken, used_by, walked_by}
-use Rattle.directory_calls.proofs.Going.{at_step, from_earlier, holds_by, leaves_as, leaves_core, leaves_none, leaves_then, seat_same}
-use Rattle.directory_calls.proofs.Learnt.{passes_still, walked_still}
-use Rattle.directory_calls.proofs.Parts.{LearnsBy, Place, lifts, part_none, tells, zero_then}
+use Rattle.record_making.proofs.Below.directory_calls.Going.{at_step, from_earlier, holds_by, leaves_as, leaves_core, leaves_none, leaves_then, seat_same}
+use Rattle.record_making.proofs.Below.directory_calls.Learnt.{passes_still, walked_still}
+use Rattle.record_making.proofs.Below.directory_calls.Parts.{LearnsBy, Place, lifts, part_none, tells, zero_then}
 use Rattle.weak_intern.proofs.Costs.{passes_either, passes_none}
 
 -- A LAST LOOK

@@ -1,9 +1,9 @@
 -- What a walk looks for, and short texts.
 use Rattle.std.proofs.Common.{◌≡◌, ℕ, ◌<◌, ◌≤◌, ◌-◌, ◌^◌, List, [], ◌∷◌, drop, length, take, refl, sym, ap, ◌∙◌, arith}
 use Rattle.std.specs.Prelude.{slice_index_or}
-use Rattle.directory_law.specs.Payloads.{IsRest, IsText, Text, size}
-use Rattle.directory_law.specs.Places.{hash_on}
-use Rattle.directory_law.proofs.Bytes.{text_place}
+use Rattle.record_making.specs.directory_law.Payloads.{IsRest, IsText, Text, size}
+use Rattle.record_making.specs.directory_law.Places.{hash_on}
+use Rattle.record_making.proofs.Below.directory_law.Bytes.{text_place}
 use Rattle.record_making.specs.Texts.{parts_after, parts_of, payload_of, text_of}
 use Rattle.record_making.proofs.Packed.{begins_so, bytes_small, is_text_of, packs}
 use Rattle.weak_intern.specs.Sought.{IsSought}

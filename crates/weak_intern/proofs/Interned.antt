@@ -1,27 +1,27 @@
 -- What an intern answers, of the bytes of its text.
 use Rattle.std.proofs.Common.{◌≡◌, inl, inr, ⊎_elim, ℕ, List, ◌<◌, refl, true, subst, sym, arith, Some, None}
 use Rattle.std.specs.Prelude.{Err, IfOk, Ok, Option, Result}
-use Rattle.plain_state.specs.declared.slot.SlotId.{SlotId}
-use Rattle.plain_state.specs.Lists.{times}
-use Rattle.core_law.proofs.Kit.{one_same, times_push}
-use Rattle.acquire_retire.specs.Domains.{DomainState}
-use Rattle.acquire_retire.specs.Seats.{SeatState}
-use Rattle.counted_handles.specs.Handles.{Handle}
-use Rattle.directory_law.specs.declared.view.View.{View}
-use Rattle.directory_law.specs.Bytes.{IsTextOf}
-use Rattle.directory_law.specs.Cells.{Area}
-use Rattle.directory_law.specs.Law.{IsBound, NoneBound}
+use Rattle.atomic_weak.specs.plain_state.declared.slot.SlotId.{SlotId}
+use Rattle.atomic_weak.specs.plain_state.Lists.{times}
+use Rattle.atomic_weak.proofs.Below.core_law.Kit.{one_same, times_push}
+use Rattle.atomic_weak.specs.acquire_retire.Domains.{DomainState}
+use Rattle.atomic_weak.specs.acquire_retire.Seats.{SeatState}
+use Rattle.atomic_weak.specs.counted_handles.Handles.{Handle}
+use Rattle.record_making.specs.directory_law.declared.view.View.{View}
+use Rattle.record_making.specs.directory_law.Bytes.{IsTextOf}
+use Rattle.record_making.specs.directory_law.Cells.{Area}
+use Rattle.record_making.specs.directory_law.Law.{IsBound, NoneBound}
 use Rattle.weak_intern.specs.declared.walking.Walk.{Walk}
 use Rattle.weak_intern.specs.declared.walking.Walk.TheVariants as walk
-use Rattle.directory_calls.specs.Directories.{CanCount, HasNoRecord}
+use Rattle.record_making.specs.directory_calls.Directories.{CanCount, HasNoRecord}
 use Rattle.weak_intern.specs.Interning.{Interns, Places}
-use Rattle.directory_law.specs.Payloads.{Text}
-use Rattle.directory_calls.specs.Steps.{AtStep, GoesOn, Leaves, handle_by, with_found}
+use Rattle.record_making.specs.directory_law.Payloads.{Text}
+use Rattle.record_making.specs.directory_calls.Steps.{AtStep, GoesOn, Leaves, handle_by, with_found}
 use Rattle.weak_intern.specs.Walking.{ComesTo, used_by, walked_by}
 use Rattle.weak_intern.specs.Knowing.{Knows, KnowsRecord}
 use Rattle.weak_intern.proofs.Answered.{is_record, is_record_after, no_record}
-use Rattle.directory_calls.proofs.Going.{from_earlier, holds_by, leaves_as, leaves_then, seat_same, some_earlier, to_later}
-use Rattle.directory_calls.proofs.Parts.{LearnsBy, Place}
+use Rattle.record_making.proofs.Below.directory_calls.Going.{from_earlier, holds_by, leaves_as, leaves_then, seat_same, some_earlier, to_later}
+use Rattle.record_making.proofs.Below.directory_calls.Parts.{LearnsBy, Place}
 use Rattle.weak_intern.proofs.Placed.{GrowsBy, grow_then, part_grows}
 
 -- the live record that the walk came to

@@ -1,27 +1,27 @@
 -- The head that a seat sees, which it holds, and lets go.
 use Rattle.std.proofs.Common.{◌≡◌, ◌≢◌, ℕ, ◌<◌, List, [], ◌∷◌, ◌++◌, length, refl, ap, ◌∙◌, subst, arith}
 use Rattle.std.specs.Prelude.{slice_set}
-use Rattle.plain_state.specs.declared.slot.Kind.TheVariants.{Weak}
-use Rattle.plain_state.specs.declared.slot.SlotId.{SlotId}
-use Rattle.plain_protocol.specs.Owns.{HasSlot}
-use Rattle.core_events.specs.declared.act.Act.TheVariants as act
-use Rattle.core_events.specs.declared.outcome.Outcome.{Outcome}
-use Rattle.core_events.specs.declared.outcome.Outcome.TheVariants as outcome
-use Rattle.core_events.specs.declared.view.CoreView.{CoreView}
-use Rattle.core_events.specs.declared.view.Note.TheVariants as note
-use Rattle.core_events.specs.Shows.{show_seat}
-use Rattle.core_events.specs.Steps.{IsIdle}
-use Rattle.core_events.specs.Views.{Holds, note_of}
-use Rattle.acquire_retire.specs.Calls.{IsSameView, Steps, same_view}
-use Rattle.acquire_retire.specs.Collecting.{move}
-use Rattle.acquire_retire.specs.Domains.{DomainState}
-use Rattle.acquire_retire.specs.Seats.{SeatState}
-use Rattle.control_word.specs.Moves.{KnowsStill}
-use Rattle.control_word.specs.Resting.{IsAtRest}
-use Rattle.control_word.proofs.Becoming.{Comes, calling, comes_one}
+use Rattle.atomic_weak.specs.plain_state.declared.slot.Kind.TheVariants.{Weak}
+use Rattle.atomic_weak.specs.plain_state.declared.slot.SlotId.{SlotId}
+use Rattle.atomic_weak.specs.plain_protocol.Owns.{HasSlot}
+use Rattle.atomic_weak.specs.core_events.declared.act.Act.TheVariants as act
+use Rattle.atomic_weak.specs.core_events.declared.outcome.Outcome.{Outcome}
+use Rattle.atomic_weak.specs.core_events.declared.outcome.Outcome.TheVariants as outcome
+use Rattle.atomic_weak.specs.core_events.declared.view.CoreView.{CoreView}
+use Rattle.atomic_weak.specs.core_events.declared.view.Note.TheVariants as note
+use Rattle.atomic_weak.specs.core_events.Shows.{show_seat}
+use Rattle.atomic_weak.specs.core_events.Steps.{IsIdle}
+use Rattle.atomic_weak.specs.core_events.Views.{Holds, note_of}
+use Rattle.atomic_weak.specs.acquire_retire.Calls.{IsSameView, Steps, same_view}
+use Rattle.atomic_weak.specs.acquire_retire.Collecting.{move}
+use Rattle.atomic_weak.specs.acquire_retire.Domains.{DomainState}
+use Rattle.atomic_weak.specs.acquire_retire.Seats.{SeatState}
+use Rattle.atomic_weak.specs.control_word.Moves.{KnowsStill}
+use Rattle.atomic_weak.specs.control_word.Resting.{IsAtRest}
+use Rattle.atomic_weak.proofs.Below.control_word.Becoming.{Comes, calling, comes_one}
 use Rattle.atomic_weak.proofs.Noted.{has_released, holds_weak, noted_there}
-use Rattle.protected_loads.proofs.Noting.{all_settled, beside, release_keeps, rests_noted}
-use Rattle.protected_loads.proofs.Telling.{holds_has}
+use Rattle.atomic_weak.proofs.Below.protected_loads.Noting.{all_settled, beside, release_keeps, rests_noted}
+use Rattle.atomic_weak.proofs.Below.protected_loads.Telling.{holds_has}
 use Rattle.weak_intern.specs.declared.seeing.Sighted.{Sighted}
 use Rattle.weak_intern.specs.Sighting.{IsSighted, let_go_of}
 

@@ -3,36 +3,36 @@ use Rattle.std.proofs.Common.{◌≡◌, ℕ, Bool, true, false, [], ◌∷◌, 
 use Rattle.std.specs.Prelude.{Err, IfOk, Ok, Option, Result}
 use Rattle.std.proofs.lemmas.Bool.Decides.{nat_tests}
 use Rattle.std.proofs.lemmas.List.{append-nil}
-use Rattle.plain_state.specs.declared.slot.SlotId.{SlotId}
-use Rattle.plain_state.specs.declared.act.PlainAct.{PlainAct}
-use Rattle.plain_state.specs.State.{Plain}
-use Rattle.plain_protocol.specs.Owns.{HasSlot, Object, OwnPart}
-use Rattle.core_events.specs.declared.act.Act.TheVariants as act
-use Rattle.core_events.specs.declared.outcome.Outcome.TheVariants as outcome
-use Rattle.core_events.specs.declared.view.CoreView.{CoreView}
-use Rattle.core_events.specs.declared.view.Move.{Move}
-use Rattle.core_events.specs.Shows.{show_seat}
-use Rattle.core_events.specs.Views.{Holds}
-use Rattle.core_law.proofs.Kit.{times_push}
-use Rattle.domain_rule.specs.Views.{object_in}
-use Rattle.acquire_retire.specs.Collecting.{move}
-use Rattle.acquire_retire.specs.Domains.{DomainState}
-use Rattle.acquire_retire.specs.Seats.{SeatState}
-use Rattle.control_word.specs.declared.upgrading.UpgradeError.{UpgradeError}
-use Rattle.control_word.specs.declared.upgrading.UpgradeError.TheVariants as no_raise
-use Rattle.control_word.specs.Calls.{FindsEnded, GainsStrong}
-use Rattle.control_word.specs.Moves.{KnowsStill}
-use Rattle.control_word.proofs.Owning.{some_more}
-use Rattle.counted_handles.specs.Handles.{Handle}
-use Rattle.protected_loads.proofs.Telling.{holds_has}
-use Rattle.directory_law.specs.Cells.{Area}
-use Rattle.directory_law.specs.Law.{IsBound}
-use Rattle.directory_law.specs.Lessons.{UpgradeTells, upgrade_next}
-use Rattle.directory_law.specs.Payloads.{IsText, Text}
-use Rattle.directory_law.specs.Views.{In, note}
-use Rattle.directory_calls.specs.Steps.{AtStep}
-use Rattle.directory_calls.proofs.Going.{also, to_later}
-use Rattle.directory_calls.proofs.Parts.{LearnsBy, Place, lifts, part_none, tells}
+use Rattle.atomic_weak.specs.plain_state.declared.slot.SlotId.{SlotId}
+use Rattle.atomic_weak.specs.plain_state.declared.act.PlainAct.{PlainAct}
+use Rattle.atomic_weak.specs.plain_state.State.{Plain}
+use Rattle.atomic_weak.specs.plain_protocol.Owns.{HasSlot, Object, OwnPart}
+use Rattle.atomic_weak.specs.core_events.declared.act.Act.TheVariants as act
+use Rattle.atomic_weak.specs.core_events.declared.outcome.Outcome.TheVariants as outcome
+use Rattle.atomic_weak.specs.core_events.declared.view.CoreView.{CoreView}
+use Rattle.atomic_weak.specs.core_events.declared.view.Move.{Move}
+use Rattle.atomic_weak.specs.core_events.Shows.{show_seat}
+use Rattle.atomic_weak.specs.core_events.Views.{Holds}
+use Rattle.atomic_weak.proofs.Below.core_law.Kit.{times_push}
+use Rattle.atomic_weak.specs.domain_rule.Views.{object_in}
+use Rattle.atomic_weak.specs.acquire_retire.Collecting.{move}
+use Rattle.atomic_weak.specs.acquire_retire.Domains.{DomainState}
+use Rattle.atomic_weak.specs.acquire_retire.Seats.{SeatState}
+use Rattle.atomic_weak.specs.control_word.declared.upgrading.UpgradeError.{UpgradeError}
+use Rattle.atomic_weak.specs.control_word.declared.upgrading.UpgradeError.TheVariants as no_raise
+use Rattle.atomic_weak.specs.control_word.Calls.{FindsEnded, GainsStrong}
+use Rattle.atomic_weak.specs.control_word.Moves.{KnowsStill}
+use Rattle.atomic_weak.proofs.Below.control_word.Owning.{some_more}
+use Rattle.atomic_weak.specs.counted_handles.Handles.{Handle}
+use Rattle.atomic_weak.proofs.Below.protected_loads.Telling.{holds_has}
+use Rattle.record_making.specs.directory_law.Cells.{Area}
+use Rattle.record_making.specs.directory_law.Law.{IsBound}
+use Rattle.record_making.specs.directory_law.Lessons.{UpgradeTells, upgrade_next}
+use Rattle.record_making.specs.directory_law.Payloads.{IsText, Text}
+use Rattle.record_making.specs.directory_law.Views.{In, note}
+use Rattle.record_making.specs.directory_calls.Steps.{AtStep}
+use Rattle.record_making.proofs.Below.directory_calls.Going.{also, to_later}
+use Rattle.record_making.proofs.Below.directory_calls.Parts.{LearnsBy, Place, lifts, part_none, tells}
 use Rattle.text_reading.specs.Reading.{HasBegun}
 use Rattle.weak_intern.specs.declared.seeing.Sighted.{Sighted}
 use Rattle.weak_intern.specs.Seeing.{BeginsText}

@@ -1,3 +1,4 @@
+pub mod Below
 pub mod Tries
 pub mod Seen
 pub mod LetGo

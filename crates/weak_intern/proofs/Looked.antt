@@ -1,26 +1,26 @@
 -- What a whole look at a cell leaves of a seat, in which it saw null or a head.
 use Rattle.std.proofs.Common.{◌≡◌, ℕ, Bool, true, false, List, ◌++◌, refl, sym, ap, subst, ◌∙◌, append_assoc, Some, None, inl, inr}
 use Rattle.std.specs.Prelude.{◌≢◌, Err, IfOk, Ok, Option, Result}
-use Rattle.plain_state.specs.declared.act.EventPlace.TheVariants.{WeakCell}
-use Rattle.plain_state.specs.declared.slot.Kind.TheVariants.{Weak}
-use Rattle.plain_state.specs.declared.slot.SlotId.{SlotId}
-use Rattle.core_events.specs.declared.view.CoreView.{CoreView}
-use Rattle.core_events.specs.declared.view.Move.{Move}
-use Rattle.core_events.specs.declared.view.Note.TheVariants as note
-use Rattle.core_events.specs.Views.{note_of}
-use Rattle.acquire_retire.specs.Domains.{DomainState}
-use Rattle.acquire_retire.specs.Seats.{SeatState}
-use Rattle.control_word.specs.Moves.{KnowsStill}
-use Rattle.protected_loads.specs.Loads.{protected_by}
-use Rattle.protected_loads.specs.Retries.{lost_by}
-use Rattle.protected_loads.proofs.Noting.{second_stays, written_back}
-use Rattle.directory_law.specs.declared.view.View.{View}
-use Rattle.directory_law.specs.Cells.{Area}
-use Rattle.directory_law.specs.Payloads.{Text}
-use Rattle.directory_calls.specs.Steps.{Leaves, with_found}
-use Rattle.directory_calls.proofs.Going.{leaves_core}
-use Rattle.directory_calls.proofs.Parts.{LearnsBy, Place}
-use Rattle.snapshot_ptr.proofs.Under.{least_is_free}
+use Rattle.atomic_weak.specs.plain_state.declared.act.EventPlace.TheVariants.{WeakCell}
+use Rattle.atomic_weak.specs.plain_state.declared.slot.Kind.TheVariants.{Weak}
+use Rattle.atomic_weak.specs.plain_state.declared.slot.SlotId.{SlotId}
+use Rattle.atomic_weak.specs.core_events.declared.view.CoreView.{CoreView}
+use Rattle.atomic_weak.specs.core_events.declared.view.Move.{Move}
+use Rattle.atomic_weak.specs.core_events.declared.view.Note.TheVariants as note
+use Rattle.atomic_weak.specs.core_events.Views.{note_of}
+use Rattle.atomic_weak.specs.acquire_retire.Domains.{DomainState}
+use Rattle.atomic_weak.specs.acquire_retire.Seats.{SeatState}
+use Rattle.atomic_weak.specs.control_word.Moves.{KnowsStill}
+use Rattle.atomic_weak.specs.protected_loads.Loads.{protected_by}
+use Rattle.atomic_weak.specs.protected_loads.Retries.{lost_by}
+use Rattle.atomic_weak.proofs.Below.protected_loads.Noting.{second_stays, written_back}
+use Rattle.record_making.specs.directory_law.declared.view.View.{View}
+use Rattle.record_making.specs.directory_law.Cells.{Area}
+use Rattle.record_making.specs.directory_law.Payloads.{Text}
+use Rattle.record_making.specs.directory_calls.Steps.{Leaves, with_found}
+use Rattle.record_making.proofs.Below.directory_calls.Going.{leaves_core}
+use Rattle.record_making.proofs.Below.directory_calls.Parts.{LearnsBy, Place}
+use Rattle.text_reading.proofs.Below.snapshot_ptr.Under.{least_is_free}
 use Rattle.text_reading.specs.Reading.{HasTwoFree}
 use Rattle.weak_intern.specs.declared.looking.Sight.{Sight}
 use Rattle.weak_intern.specs.declared.looking.Sight.TheVariants as sight

@@ -1,26 +1,26 @@
 -- What a seat met in a head.
 use Rattle.std.proofs.Common.{◌≡◌, inl, inr, ℕ, ◌≤◌, List, [], ◌∷◌, refl, sym, ap, subst, ◌∙◌}
 use Rattle.std.specs.Prelude.{◌≢◌, Bool, true, false}
-use Rattle.plain_state.specs.declared.slot.SlotId.{SlotId}
-use Rattle.plain_protocol.specs.Owns.{Object}
-use Rattle.domain_rule.specs.Views.{object_in}
-use Rattle.acquire_retire.specs.Domains.{DomainState}
-use Rattle.acquire_retire.specs.Seats.{SeatState}
-use Rattle.counted_handles.specs.Handles.{Handle}
-use Rattle.directory_law.specs.declared.view.Seen.{Seen}
-use Rattle.directory_law.specs.Cells.{Area}
-use Rattle.directory_law.specs.Law.{IsBound}
-use Rattle.directory_law.specs.Payloads.{IsText, Text, size}
-use Rattle.directory_law.specs.Views.{In, note}
+use Rattle.atomic_weak.specs.plain_state.declared.slot.SlotId.{SlotId}
+use Rattle.atomic_weak.specs.plain_protocol.Owns.{Object}
+use Rattle.atomic_weak.specs.domain_rule.Views.{object_in}
+use Rattle.atomic_weak.specs.acquire_retire.Domains.{DomainState}
+use Rattle.atomic_weak.specs.acquire_retire.Seats.{SeatState}
+use Rattle.atomic_weak.specs.counted_handles.Handles.{Handle}
+use Rattle.record_making.specs.directory_law.declared.view.Seen.{Seen}
+use Rattle.record_making.specs.directory_law.Cells.{Area}
+use Rattle.record_making.specs.directory_law.Law.{IsBound}
+use Rattle.record_making.specs.directory_law.Payloads.{IsText, Text, size}
+use Rattle.record_making.specs.directory_law.Views.{In, note}
 use Rattle.weak_intern.specs.declared.looking.Sight.TheVariants as sight
 use Rattle.text_reading.specs.Reading.{HasBegun, begun}
 use Rattle.weak_intern.specs.Seeing.{BeginsText, HasSeenAt, seen_in}
 use Rattle.weak_intern.specs.Knowing.{Knows}
-use Rattle.directory_calls.specs.Steps.{AtStep}
+use Rattle.record_making.specs.directory_calls.Steps.{AtStep}
 use Rattle.weak_intern.specs.Walking.{MeetsIn}
-use Rattle.directory_calls.proofs.Going.{also}
+use Rattle.record_making.proofs.Below.directory_calls.Going.{also}
 use Rattle.weak_intern.proofs.Heads.{short_text}
-use Rattle.directory_calls.proofs.Parts.{LearnsBy, Place}
+use Rattle.record_making.proofs.Below.directory_calls.Parts.{LearnsBy, Place}
 
 -- a test that failed
 pub is_not : (b : Bool) → b ≡ false → b ≡ true → ⊥

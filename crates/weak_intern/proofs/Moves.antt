@@ -1,22 +1,22 @@
 -- What the moves of a look at a cell leave of a seat, one after another.
 use Rattle.std.proofs.Common.{◌≡◌, ◌+◌, ◌≤◌, ℕ, Bool, true, false, List, [], ◌∷◌, ◌++◌, refl, sym, ap, subst, ◌∙◌, append_assoc, arith, Some, None, inr}
 use Rattle.std.specs.Prelude.{◌≢◌, Err, IfOk, Ok, Option, Result}
-use Rattle.plain_state.specs.declared.slot.SlotId.{SlotId}
-use Rattle.core_events.specs.declared.view.CoreView.{CoreView}
-use Rattle.core_events.specs.declared.view.Move.{Move}
-use Rattle.acquire_retire.specs.Domains.{DomainState}
-use Rattle.acquire_retire.specs.Seats.{SeatState}
-use Rattle.control_word.specs.declared.upgrading.UpgradeError.{UpgradeError}
-use Rattle.control_word.specs.declared.upgrading.UpgradeError.TheVariants as no_raise
-use Rattle.control_word.specs.Moves.{KnowsStill}
-use Rattle.counted_handles.specs.Handles.{Handle}
-use Rattle.control_word.specs.Resting.{IsSpent}
-use Rattle.domain_rule.specs.Views.{object_in}
-use Rattle.directory_law.specs.Cells.{Area}
-use Rattle.directory_law.specs.Payloads.{Text}
-use Rattle.directory_calls.specs.Steps.{GoesOn, Leaves, aside, handle_by, with_found}
-use Rattle.directory_calls.proofs.Going.{leaves_core}
-use Rattle.directory_calls.proofs.Parts.{LearnsBy, Place, part_none}
+use Rattle.atomic_weak.specs.plain_state.declared.slot.SlotId.{SlotId}
+use Rattle.atomic_weak.specs.core_events.declared.view.CoreView.{CoreView}
+use Rattle.atomic_weak.specs.core_events.declared.view.Move.{Move}
+use Rattle.atomic_weak.specs.acquire_retire.Domains.{DomainState}
+use Rattle.atomic_weak.specs.acquire_retire.Seats.{SeatState}
+use Rattle.atomic_weak.specs.control_word.declared.upgrading.UpgradeError.{UpgradeError}
+use Rattle.atomic_weak.specs.control_word.declared.upgrading.UpgradeError.TheVariants as no_raise
+use Rattle.atomic_weak.specs.control_word.Moves.{KnowsStill}
+use Rattle.atomic_weak.specs.counted_handles.Handles.{Handle}
+use Rattle.atomic_weak.specs.control_word.Resting.{IsSpent}
+use Rattle.atomic_weak.specs.domain_rule.Views.{object_in}
+use Rattle.record_making.specs.directory_law.Cells.{Area}
+use Rattle.record_making.specs.directory_law.Payloads.{Text}
+use Rattle.record_making.specs.directory_calls.Steps.{GoesOn, Leaves, aside, handle_by, with_found}
+use Rattle.record_making.proofs.Below.directory_calls.Going.{leaves_core}
+use Rattle.record_making.proofs.Below.directory_calls.Parts.{LearnsBy, Place, part_none}
 use Rattle.text_reading.specs.Reading.{HasTwoFree}
 use Rattle.weak_intern.specs.declared.looking.Sight.{Sight}
 use Rattle.weak_intern.specs.declared.looking.Sight.TheVariants as sight

@@ -2,39 +2,39 @@
 use Rattle.std.proofs.Common.{◌≡◌, inl, inr, ⊎_elim, ℕ, ◌+◌, ◌<◌, ◌≤◌, [], ◌∷◌, ◌++◌, true, refl, sym, ap, subst, ◌∙◌, arith, Some, None}
 use Rattle.std.specs.Prelude.{Bool, false, Err, Option, Result}
 use Rattle.std.proofs.lemmas.Bool.{cases_lt}
-use Rattle.plain_state.specs.declared.slot.SlotId.{SlotId}
-use Rattle.plain_state.specs.Lists.{times}
-use Rattle.plain_protocol.specs.Owns.{Object}
-use Rattle.core_events.specs.declared.view.CoreView.{CoreView}
-use Rattle.core_events.specs.Steps.{HasRoom}
-use Rattle.core_law.proofs.Kit.{times_push}
-use Rattle.domain_rule.specs.Views.{object_in}
-use Rattle.acquire_retire.specs.Domains.{DomainState}
-use Rattle.acquire_retire.specs.Seats.{SeatState}
-use Rattle.control_word.specs.Resting.{IsAtRest, IsSpent}
-use Rattle.counted_handles.specs.Handles.{Handle}
-use Rattle.directory_law.specs.declared.view.Rope.{Rope}
-use Rattle.directory_law.specs.declared.view.View.{View}
-use Rattle.directory_law.specs.Cells.{Area, on}
-use Rattle.directory_law.specs.Law.{IsBound}
-use Rattle.directory_law.specs.Making.{bound}
-use Rattle.directory_law.specs.Views.{In, rope}
-use Rattle.directory_law.specs.Walks.{Passes, Walked}
+use Rattle.atomic_weak.specs.plain_state.declared.slot.SlotId.{SlotId}
+use Rattle.atomic_weak.specs.plain_state.Lists.{times}
+use Rattle.atomic_weak.specs.plain_protocol.Owns.{Object}
+use Rattle.atomic_weak.specs.core_events.declared.view.CoreView.{CoreView}
+use Rattle.atomic_weak.specs.core_events.Steps.{HasRoom}
+use Rattle.atomic_weak.proofs.Below.core_law.Kit.{times_push}
+use Rattle.atomic_weak.specs.domain_rule.Views.{object_in}
+use Rattle.atomic_weak.specs.acquire_retire.Domains.{DomainState}
+use Rattle.atomic_weak.specs.acquire_retire.Seats.{SeatState}
+use Rattle.atomic_weak.specs.control_word.Resting.{IsAtRest, IsSpent}
+use Rattle.atomic_weak.specs.counted_handles.Handles.{Handle}
+use Rattle.record_making.specs.directory_law.declared.view.Rope.{Rope}
+use Rattle.record_making.specs.directory_law.declared.view.View.{View}
+use Rattle.record_making.specs.directory_law.Cells.{Area, on}
+use Rattle.record_making.specs.directory_law.Law.{IsBound}
+use Rattle.record_making.specs.directory_law.Making.{bound}
+use Rattle.record_making.specs.directory_law.Views.{In, rope}
+use Rattle.record_making.specs.directory_law.Walks.{Passes, Walked}
 use Rattle.weak_intern.specs.declared.looking.Sight.{Sight}
 use Rattle.weak_intern.specs.declared.looking.Sight.TheVariants as sight
-use Rattle.directory_calls.specs.Directories.{CanCount}
+use Rattle.record_making.specs.directory_calls.Directories.{CanCount}
 use Rattle.weak_intern.specs.Interning.{Binds, ComesBy, Grows, GrowsIn, HasPassed, Places, placed_by}
 use Rattle.record_making.specs.Making.{HasNotedLast, candidate_in}
-use Rattle.directory_law.specs.Payloads.{Text}
+use Rattle.record_making.specs.directory_law.Payloads.{Text}
 use Rattle.weak_intern.specs.Knowing.{Knows}
-use Rattle.directory_calls.specs.Learning.{Learns, LearnsIn}
-use Rattle.directory_calls.specs.Steps.{GoesOn, Leaves, aside, with_found}
+use Rattle.record_making.specs.directory_calls.Learning.{Learns, LearnsIn}
+use Rattle.record_making.specs.directory_calls.Steps.{GoesOn, Leaves, aside, with_found}
 use Rattle.weak_intern.specs.Races.{IsWhyShort, LosesRace}
 use Rattle.weak_intern.specs.Sighting.{Sights}
 use Rattle.weak_intern.specs.Walking.{Meets, found_by, met, taken}
-use Rattle.directory_calls.proofs.Going.{from_earlier, holds_by, leaves_as, leaves_none, leaves_then, seat_same, some_earlier}
-use Rattle.directory_calls.proofs.Learnt.{learns_keeps, walked_still}
-use Rattle.directory_calls.proofs.Parts.{LearnsBy, Place, part_none, zero_then}
+use Rattle.record_making.proofs.Below.directory_calls.Going.{from_earlier, holds_by, leaves_as, leaves_none, leaves_then, seat_same, some_earlier}
+use Rattle.record_making.proofs.Below.directory_calls.Learnt.{learns_keeps, walked_still}
+use Rattle.record_making.proofs.Below.directory_calls.Parts.{LearnsBy, Place, part_none, zero_then}
 use Rattle.weak_intern.proofs.Races.{UsesFew, spent_short, uses_on}
 
 -- MORE LEARNT, and more kept

@@ -1,17 +1,17 @@
 -- A race that was lost stays so, and which adds were left where a call found none.
 use Rattle.std.proofs.Common.{◌≡◌, inl, inr, ⊎_elim, ℕ, ◌+◌, ◌≤◌, List, [], ◌∷◌, ◌++◌, ap, sym, ◌∙◌, arith, append_assoc, None}
 use Rattle.std.specs.Prelude.{◌⊎◌}
-use Rattle.plain_state.specs.declared.act.EventPlace.TheVariants.{WeakCell}
-use Rattle.plain_state.specs.declared.slot.SlotId.{SlotId}
-use Rattle.core_events.specs.declared.act.Act.TheVariants as act
-use Rattle.core_events.specs.declared.outcome.Outcome.TheVariants as outcome
-use Rattle.core_events.specs.declared.view.CoreView.{CoreView}
-use Rattle.core_events.specs.declared.view.Move.{Move}
-use Rattle.core_events.specs.declared.shape.Quota.{Quota}
-use Rattle.acquire_retire.specs.Collecting.{move}
-use Rattle.control_word.specs.Resting.{IsSpent}
-use Rattle.directory_calls.specs.Steps.{GoesOn}
-use Rattle.protected_loads.specs.Retries.{lost_by}
+use Rattle.atomic_weak.specs.plain_state.declared.act.EventPlace.TheVariants.{WeakCell}
+use Rattle.atomic_weak.specs.plain_state.declared.slot.SlotId.{SlotId}
+use Rattle.atomic_weak.specs.core_events.declared.act.Act.TheVariants as act
+use Rattle.atomic_weak.specs.core_events.declared.outcome.Outcome.TheVariants as outcome
+use Rattle.atomic_weak.specs.core_events.declared.view.CoreView.{CoreView}
+use Rattle.atomic_weak.specs.core_events.declared.view.Move.{Move}
+use Rattle.atomic_weak.specs.core_events.declared.shape.Quota.{Quota}
+use Rattle.atomic_weak.specs.acquire_retire.Collecting.{move}
+use Rattle.atomic_weak.specs.control_word.Resting.{IsSpent}
+use Rattle.record_making.specs.directory_calls.Steps.{GoesOn}
+use Rattle.atomic_weak.specs.protected_loads.Retries.{lost_by}
 use Rattle.weak_intern.specs.Races.{IsWhyShort, LosesRace, MissesCell, missed_by}
 use Rattle.weak_intern.specs.Sighting.{Sights}
 

@@ -1,40 +1,40 @@
 -- What an upgrade with the deed UpgradeHead asks, and what it leaves of a seat.
 use Rattle.std.proofs.Common.{◌≡◌, inl, inr, ℕ, ◌+◌, Bool, true, false, [], ◌∷◌, List, refl, sym, ap, subst, ◌∙◌, arith, Some, None}
 use Rattle.std.specs.Prelude.{◌==◌, if◌then◌else◌, nat_lt}
-use Rattle.plain_state.specs.declared.slot.SlotId.{SlotId}
-use Rattle.plain_state.specs.declared.act.PlainAct.{PlainAct}
-use Rattle.plain_state.specs.declared.act.PlainAct.TheVariants as plain
-use Rattle.plain_state.specs.State.{Plain}
-use Rattle.plain_protocol.specs.Acts.{Owned}
-use Rattle.plain_protocol.specs.Owns.{HasSlot, Object, OwnPart}
-use Rattle.protocol_pairs.specs.Parts.{Accepts, Frees}
-use Rattle.core_events.specs.declared.act.Act.TheVariants as act
-use Rattle.core_events.specs.declared.outcome.Outcome.TheVariants as outcome
-use Rattle.core_events.specs.Runs.{after}
-use Rattle.core_events.specs.Shows.{show_seat, shows}
-use Rattle.counter_word.specs.Words.{ZERO}
-use Rattle.domain_rule.specs.Views.{object_in, own_of}
-use Rattle.acquire_retire.specs.Calls.{IsReady}
-use Rattle.acquire_retire.specs.Domains.{DomainState}
-use Rattle.acquire_retire.specs.Seats.{SeatState}
-use Rattle.control_word.specs.Calls.{FindsEnded, GainsStrong}
-use Rattle.control_word.specs.Moves.{KnowsStill}
-use Rattle.core_events.specs.Views.{Holds}
-use Rattle.protected_loads.proofs.Telling.{holds_has}
-use Rattle.directory_law.specs.declared.view.View.{View}
-use Rattle.directory_law.specs.Cells.{Area}
-use Rattle.directory_law.specs.Views.{In, note}
-use Rattle.directory_law.specs.Payloads.{IsText}
-use Rattle.directory_law.specs.Law.{IsBound}
-use Rattle.directory_law.specs.Lessons.{UpgradeReady, UpgradeTells, spent, starts_at, upgrade_next}
-use Rattle.directory_law.specs.Steps.{life_in, life_of, payload_in, payload_of, slot_in}
-use Rattle.directory_protocol.specs.Keeping.{KeepsAll, MindsNone}
-use Rattle.directory_calls.specs.Directories.{CanCount}
+use Rattle.atomic_weak.specs.plain_state.declared.slot.SlotId.{SlotId}
+use Rattle.atomic_weak.specs.plain_state.declared.act.PlainAct.{PlainAct}
+use Rattle.atomic_weak.specs.plain_state.declared.act.PlainAct.TheVariants as plain
+use Rattle.atomic_weak.specs.plain_state.State.{Plain}
+use Rattle.atomic_weak.specs.plain_protocol.Acts.{Owned}
+use Rattle.atomic_weak.specs.plain_protocol.Owns.{HasSlot, Object, OwnPart}
+use Rattle.record_making.specs.protocol_pairs.Parts.{Accepts, Frees}
+use Rattle.atomic_weak.specs.core_events.declared.act.Act.TheVariants as act
+use Rattle.atomic_weak.specs.core_events.declared.outcome.Outcome.TheVariants as outcome
+use Rattle.atomic_weak.specs.core_events.Runs.{after}
+use Rattle.atomic_weak.specs.core_events.Shows.{show_seat, shows}
+use Rattle.atomic_weak.specs.counter_word.Words.{ZERO}
+use Rattle.atomic_weak.specs.domain_rule.Views.{object_in, own_of}
+use Rattle.atomic_weak.specs.acquire_retire.Calls.{IsReady}
+use Rattle.atomic_weak.specs.acquire_retire.Domains.{DomainState}
+use Rattle.atomic_weak.specs.acquire_retire.Seats.{SeatState}
+use Rattle.atomic_weak.specs.control_word.Calls.{FindsEnded, GainsStrong}
+use Rattle.atomic_weak.specs.control_word.Moves.{KnowsStill}
+use Rattle.atomic_weak.specs.core_events.Views.{Holds}
+use Rattle.atomic_weak.proofs.Below.protected_loads.Telling.{holds_has}
+use Rattle.record_making.specs.directory_law.declared.view.View.{View}
+use Rattle.record_making.specs.directory_law.Cells.{Area}
+use Rattle.record_making.specs.directory_law.Views.{In, note}
+use Rattle.record_making.specs.directory_law.Payloads.{IsText}
+use Rattle.record_making.specs.directory_law.Law.{IsBound}
+use Rattle.record_making.specs.directory_law.Lessons.{UpgradeReady, UpgradeTells, spent, starts_at, upgrade_next}
+use Rattle.record_making.specs.directory_law.Steps.{life_in, life_of, payload_in, payload_of, slot_in}
+use Rattle.record_making.specs.directory_protocol.Keeping.{KeepsAll, MindsNone}
+use Rattle.record_making.specs.directory_calls.Directories.{CanCount}
 use Rattle.text_reading.specs.Reading.{HasBegun}
 use Rattle.weak_intern.specs.Seeing.{BeginsText, HasSeenIn}
-use Rattle.directory_calls.specs.Steps.{AtStep}
-use Rattle.directory_calls.proofs.Going.{at_step}
-use Rattle.directory_calls.proofs.Parts.{LearnsBy, Place, lift_learns, lift_ready, lifts, tells}
+use Rattle.record_making.specs.directory_calls.Steps.{AtStep}
+use Rattle.record_making.proofs.Below.directory_calls.Going.{at_step}
+use Rattle.record_making.proofs.Below.directory_calls.Parts.{LearnsBy, Place, lift_learns, lift_ready, lifts, tells}
 
 counts : (w : ℕ) → outcome.Up ≡ (if nat_lt w ZERO then outcome.Up else outcome.Dead)
     → ((if nat_lt w ZERO then 0 else 1) == 0) ≡ true

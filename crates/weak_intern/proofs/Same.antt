@@ -4,11 +4,11 @@ use Rattle.std.specs.Prelude.{◌↔◌, Bool, true}
 use Rattle.std.specs.Cmp.{unsigned_Decides}
 use Rattle.std.proofs.lemmas.Slice.Eq.{slice_eq-Decides}
 use Rattle.std.specs.Str.{bytes_eq}
-use Rattle.directory_law.specs.Payloads.{IsHead, IsText, Text}
-use Rattle.directory_law.specs.Bytes.{AreBytes, IsTextOf, text_bytes}
-use Rattle.directory_law.specs.Walks.{NotPrefix}
-use Rattle.directory_law.proofs.Bytes.{one_text, text_tells}
-use Rattle.directory_law.proofs.Ends.{append_none, text_ends}
+use Rattle.record_making.specs.directory_law.Payloads.{IsHead, IsText, Text}
+use Rattle.record_making.specs.directory_law.Bytes.{AreBytes, IsTextOf, text_bytes}
+use Rattle.record_making.specs.directory_law.Walks.{NotPrefix}
+use Rattle.record_making.proofs.Below.directory_law.Bytes.{one_text, text_tells}
+use Rattle.record_making.proofs.Below.directory_law.Ends.{append_none, text_ends}
 use Rattle.text_reading.specs.Reading.{AreBytesOf}
 use Rattle.text_reading.proofs.Pieces.{bytes_have_text}
 use Rattle.record_making.specs.Texts.{text_of}

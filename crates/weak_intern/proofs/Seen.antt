@@ -1,55 +1,55 @@
 -- What a load of a cell with the deed SeeHead asks, and what it leaves of a seat.
 use Rattle.std.proofs.Common.{◌≡◌, inl, inr, ℕ, suc, ◌+◌, ◌-◌, ◌<◌, List, length, refl, sym, ap, subst, ◌∙◌, arith, Option, Some, None}
 use Rattle.std.specs.Prelude.{if◌then◌else◌}
-use Rattle.plain_state.specs.declared.act.EventPlace.TheVariants.{WeakCell}
-use Rattle.plain_state.specs.declared.act.PlainAct.{PlainAct}
-use Rattle.plain_state.specs.declared.act.PlainAct.TheVariants as plain
-use Rattle.plain_state.specs.declared.slot.Kind.TheVariants.{Weak}
-use Rattle.plain_state.specs.declared.slot.SlotId.{SlotId}
-use Rattle.plain_state.specs.Places.{content}
-use Rattle.plain_state.specs.Steps.{word_of}
-use Rattle.plain_protocol.specs.Acts.{Owned}
-use Rattle.plain_protocol.specs.Owns.{HasSlot, OwnPart}
-use Rattle.protocol_pairs.specs.Parts.{Accepts, Frees}
-use Rattle.protocol_pairs.specs.Spared.{IsWithin}
-use Rattle.core_events.specs.declared.act.Act.TheVariants as act
-use Rattle.core_events.specs.declared.outcome.Outcome.TheVariants as outcome
-use Rattle.core_events.specs.declared.view.CoreView.{CoreView}
-use Rattle.core_events.specs.declared.view.Note.TheVariants as stands
-use Rattle.core_events.specs.Runs.{after}
-use Rattle.core_events.specs.Shows.{show_seat, shows}
-use Rattle.core_events.specs.Views.{note_of}
-use Rattle.core_events.specs.Words.{slot_in}
-use Rattle.core_law.proofs.ShownPlaces.{word_slot}
-use Rattle.domain_rule.specs.Views.{object_in, own_of}
-use Rattle.acquire_retire.specs.Calls.{Steps}
-use Rattle.acquire_retire.specs.Domains.{DomainState}
-use Rattle.acquire_retire.specs.Notes.{least_free}
-use Rattle.acquire_retire.specs.Seats.{SeatState}
-use Rattle.control_word.specs.Resting.{IsAtRest}
-use Rattle.protected_loads.specs.Loads.{FindsNull, Protects, protected_by, with_snapshot}
-use Rattle.protected_loads.specs.Retries.{AcquiresAtLast, IsReadyToReacquire}
-use Rattle.protected_loads.proofs.Checking.{valid_word}
-use Rattle.protected_loads.proofs.Learning.{client_null}
-use Rattle.protected_loads.proofs.Noting.{written}
-use Rattle.protected_loads.proofs.Protecting.{holds_snapshot}
-use Rattle.protected_loads.proofs.Telling.{four_notes, holds_has}
-use Rattle.directory_law.specs.declared.view.View.{View}
-use Rattle.directory_law.specs.Views.{In}
-use Rattle.directory_law.specs.Cells.{Area, cell, on}
-use Rattle.directory_law.specs.Law.{NoneBound}
-use Rattle.directory_law.specs.Lessons.{SeeReady, SeeTells, see_next, sees}
-use Rattle.directory_law.specs.Steps.{LooksAt}
-use Rattle.directory_protocol.specs.Keeping.{MindsNone}
+use Rattle.atomic_weak.specs.plain_state.declared.act.EventPlace.TheVariants.{WeakCell}
+use Rattle.atomic_weak.specs.plain_state.declared.act.PlainAct.{PlainAct}
+use Rattle.atomic_weak.specs.plain_state.declared.act.PlainAct.TheVariants as plain
+use Rattle.atomic_weak.specs.plain_state.declared.slot.Kind.TheVariants.{Weak}
+use Rattle.atomic_weak.specs.plain_state.declared.slot.SlotId.{SlotId}
+use Rattle.atomic_weak.specs.plain_state.Places.{content}
+use Rattle.atomic_weak.specs.plain_state.Steps.{word_of}
+use Rattle.atomic_weak.specs.plain_protocol.Acts.{Owned}
+use Rattle.atomic_weak.specs.plain_protocol.Owns.{HasSlot, OwnPart}
+use Rattle.record_making.specs.protocol_pairs.Parts.{Accepts, Frees}
+use Rattle.record_making.specs.protocol_pairs.Spared.{IsWithin}
+use Rattle.atomic_weak.specs.core_events.declared.act.Act.TheVariants as act
+use Rattle.atomic_weak.specs.core_events.declared.outcome.Outcome.TheVariants as outcome
+use Rattle.atomic_weak.specs.core_events.declared.view.CoreView.{CoreView}
+use Rattle.atomic_weak.specs.core_events.declared.view.Note.TheVariants as stands
+use Rattle.atomic_weak.specs.core_events.Runs.{after}
+use Rattle.atomic_weak.specs.core_events.Shows.{show_seat, shows}
+use Rattle.atomic_weak.specs.core_events.Views.{note_of}
+use Rattle.atomic_weak.specs.core_events.Words.{slot_in}
+use Rattle.atomic_weak.proofs.Below.core_law.ShownPlaces.{word_slot}
+use Rattle.atomic_weak.specs.domain_rule.Views.{object_in, own_of}
+use Rattle.atomic_weak.specs.acquire_retire.Calls.{Steps}
+use Rattle.atomic_weak.specs.acquire_retire.Domains.{DomainState}
+use Rattle.atomic_weak.specs.acquire_retire.Notes.{least_free}
+use Rattle.atomic_weak.specs.acquire_retire.Seats.{SeatState}
+use Rattle.atomic_weak.specs.control_word.Resting.{IsAtRest}
+use Rattle.atomic_weak.specs.protected_loads.Loads.{FindsNull, Protects, protected_by, with_snapshot}
+use Rattle.atomic_weak.specs.protected_loads.Retries.{AcquiresAtLast, IsReadyToReacquire}
+use Rattle.atomic_weak.proofs.Below.protected_loads.Checking.{valid_word}
+use Rattle.atomic_weak.proofs.Below.protected_loads.Learning.{client_null}
+use Rattle.atomic_weak.proofs.Below.protected_loads.Noting.{written}
+use Rattle.atomic_weak.proofs.Below.protected_loads.Protecting.{holds_snapshot}
+use Rattle.atomic_weak.proofs.Below.protected_loads.Telling.{four_notes, holds_has}
+use Rattle.record_making.specs.directory_law.declared.view.View.{View}
+use Rattle.record_making.specs.directory_law.Views.{In}
+use Rattle.record_making.specs.directory_law.Cells.{Area, cell, on}
+use Rattle.record_making.specs.directory_law.Law.{NoneBound}
+use Rattle.record_making.specs.directory_law.Lessons.{SeeReady, SeeTells, see_next, sees}
+use Rattle.record_making.specs.directory_law.Steps.{LooksAt}
+use Rattle.record_making.specs.directory_protocol.Keeping.{MindsNone}
 use Rattle.weak_intern.specs.declared.seeing.Sighted.{Sighted}
 use Rattle.weak_intern.specs.Seeing.{EndsAt, HasSeenAt, seen_in}
-use Rattle.snapshot_ptr.proofs.Under.{IsFreeWord}
+use Rattle.text_reading.proofs.Below.snapshot_ptr.Under.{IsFreeWord}
 use Rattle.weak_intern.specs.Sighting.{IsSighted, Sights, SightsBy, seen_by}
-use Rattle.directory_calls.specs.Steps.{AtStep}
-use Rattle.directory_calls.proofs.Going.{at_step, from_earlier}
-use Rattle.directory_calls.proofs.Learnt.{learns_keeps, learns_none, see_learns, sees_learns, walked_still}
+use Rattle.record_making.specs.directory_calls.Steps.{AtStep}
+use Rattle.record_making.proofs.Below.directory_calls.Going.{at_step, from_earlier}
+use Rattle.record_making.proofs.Below.directory_calls.Learnt.{learns_keeps, learns_none, see_learns, sees_learns, walked_still}
 use Rattle.weak_intern.proofs.Tries.{goes_mid, idle_mid, learns_mid, rest_mid, sights_so}
-use Rattle.directory_calls.proofs.Parts.{LearnsBy, Place, lift_learns, lift_ready, lifts, part_then, tells}
+use Rattle.record_making.proofs.Below.directory_calls.Parts.{LearnsBy, Place, lift_learns, lift_ready, lifts, part_then, tells}
 
 module _ {P V : Type 0} (fits : List ℕ → Type 0) (d : DomainState P) (l : Place V) (z : Area)
     (i c : ℕ) (is : i ≡ z.first + c) (j : ℕ) (old : SeatState V) where

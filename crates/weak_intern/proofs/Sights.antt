@@ -1,23 +1,23 @@
 -- What is met in a cell, as from an earlier state; and a head that was raised to be read whole.
 use Rattle.std.proofs.Common.{◌≡◌, ℕ, ◌<◌, List, [], ◌∷◌, ◌++◌, sym, ap, refl, subst, ◌∙◌, arith, Some, None}
 use Rattle.std.specs.Prelude.{Bool, Option}
-use Rattle.plain_state.specs.declared.slot.SlotId.{SlotId}
-use Rattle.plain_state.specs.Lists.{times}
-use Rattle.plain_protocol.specs.Owns.{Object}
-use Rattle.core_events.specs.Views.{without}
-use Rattle.core_law.proofs.Kit.{one_same, times_push, times_without}
-use Rattle.domain_rule.specs.Views.{object_in}
-use Rattle.acquire_retire.specs.Domains.{DomainState}
-use Rattle.acquire_retire.specs.Seats.{SeatState}
-use Rattle.directory_law.specs.Cells.{Area}
-use Rattle.directory_law.specs.Law.{IsBound, NoneBound}
-use Rattle.directory_law.specs.Payloads.{Text}
-use Rattle.directory_law.specs.Views.{In}
-use Rattle.directory_calls.specs.Directories.{CanCount}
-use Rattle.directory_calls.specs.Steps.{GoesOn, Leaves, aside, with_found}
-use Rattle.directory_calls.proofs.Going.{from_earlier, holds_by, leaves_as, leaves_then}
-use Rattle.directory_calls.proofs.Learnt.{walked_still}
-use Rattle.directory_calls.proofs.Parts.{LearnsBy, Place}
+use Rattle.atomic_weak.specs.plain_state.declared.slot.SlotId.{SlotId}
+use Rattle.atomic_weak.specs.plain_state.Lists.{times}
+use Rattle.atomic_weak.specs.plain_protocol.Owns.{Object}
+use Rattle.atomic_weak.specs.core_events.Views.{without}
+use Rattle.atomic_weak.proofs.Below.core_law.Kit.{one_same, times_push, times_without}
+use Rattle.atomic_weak.specs.domain_rule.Views.{object_in}
+use Rattle.atomic_weak.specs.acquire_retire.Domains.{DomainState}
+use Rattle.atomic_weak.specs.acquire_retire.Seats.{SeatState}
+use Rattle.record_making.specs.directory_law.Cells.{Area}
+use Rattle.record_making.specs.directory_law.Law.{IsBound, NoneBound}
+use Rattle.record_making.specs.directory_law.Payloads.{Text}
+use Rattle.record_making.specs.directory_law.Views.{In}
+use Rattle.record_making.specs.directory_calls.Directories.{CanCount}
+use Rattle.record_making.specs.directory_calls.Steps.{GoesOn, Leaves, aside, with_found}
+use Rattle.record_making.proofs.Below.directory_calls.Going.{from_earlier, holds_by, leaves_as, leaves_then}
+use Rattle.record_making.proofs.Below.directory_calls.Learnt.{walked_still}
+use Rattle.record_making.proofs.Below.directory_calls.Parts.{LearnsBy, Place}
 use Rattle.text_reading.specs.Reading.{HasTwoFree}
 use Rattle.weak_intern.specs.declared.looking.Sight.{Sight}
 use Rattle.weak_intern.specs.declared.looking.Sight.TheVariants as sight

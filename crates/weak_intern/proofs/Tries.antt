@@ -1,29 +1,29 @@
 -- The tries that a load of a cell with the deed SeeHead loses, and what they leave of a seat.
 use Rattle.std.proofs.Common.{◌≡◌, ℕ, List, [], ◌∷◌, ◌++◌, sym, ap, subst, ◌∙◌, append_assoc, Option, Some}
-use Rattle.plain_state.specs.declared.act.EventPlace.TheVariants.{WeakCell}
-use Rattle.plain_state.specs.declared.act.PlainAct.TheVariants as plain
-use Rattle.plain_state.specs.declared.slot.SlotId.{SlotId}
-use Rattle.core_events.specs.declared.act.Act.TheVariants as act
-use Rattle.core_events.specs.declared.outcome.Outcome.TheVariants as outcome
-use Rattle.core_events.specs.declared.view.CoreView.{CoreView}
-use Rattle.core_events.specs.declared.view.Move.{Move}
-use Rattle.core_events.specs.declared.view.Note.TheVariants as stands
-use Rattle.core_events.specs.Views.{note_of}
-use Rattle.domain_rule.specs.Views.{own_of}
-use Rattle.acquire_retire.specs.Calls.{IsSameView, same_view}
-use Rattle.acquire_retire.specs.Collecting.{move}
-use Rattle.acquire_retire.specs.Domains.{DomainState}
-use Rattle.acquire_retire.specs.Seats.{SeatState}
-use Rattle.control_word.specs.Resting.{IsAtRest, IsSettled}
-use Rattle.control_word.proofs.Becoming.{walks_table}
-use Rattle.protected_loads.specs.Loads.{Misses, announced_by}
-use Rattle.protected_loads.specs.Retries.{AcquiresAtLast, Loses, Lost, lost_by}
-use Rattle.directory_law.specs.Cells.{Area}
-use Rattle.directory_law.specs.Lessons.{SeeTells, see_next}
-use Rattle.snapshot_ptr.proofs.Under.{IsFreeWord}
-use Rattle.directory_calls.specs.Steps.{GoesOn}
-use Rattle.directory_calls.proofs.Learnt.{see_learns}
-use Rattle.directory_calls.proofs.Parts.{LearnsBy, Place, lift_learns, lifts, part_none, part_then, tells}
+use Rattle.atomic_weak.specs.plain_state.declared.act.EventPlace.TheVariants.{WeakCell}
+use Rattle.atomic_weak.specs.plain_state.declared.act.PlainAct.TheVariants as plain
+use Rattle.atomic_weak.specs.plain_state.declared.slot.SlotId.{SlotId}
+use Rattle.atomic_weak.specs.core_events.declared.act.Act.TheVariants as act
+use Rattle.atomic_weak.specs.core_events.declared.outcome.Outcome.TheVariants as outcome
+use Rattle.atomic_weak.specs.core_events.declared.view.CoreView.{CoreView}
+use Rattle.atomic_weak.specs.core_events.declared.view.Move.{Move}
+use Rattle.atomic_weak.specs.core_events.declared.view.Note.TheVariants as stands
+use Rattle.atomic_weak.specs.core_events.Views.{note_of}
+use Rattle.atomic_weak.specs.domain_rule.Views.{own_of}
+use Rattle.atomic_weak.specs.acquire_retire.Calls.{IsSameView, same_view}
+use Rattle.atomic_weak.specs.acquire_retire.Collecting.{move}
+use Rattle.atomic_weak.specs.acquire_retire.Domains.{DomainState}
+use Rattle.atomic_weak.specs.acquire_retire.Seats.{SeatState}
+use Rattle.atomic_weak.specs.control_word.Resting.{IsAtRest, IsSettled}
+use Rattle.atomic_weak.proofs.Below.control_word.Becoming.{walks_table}
+use Rattle.atomic_weak.specs.protected_loads.Loads.{Misses, announced_by}
+use Rattle.atomic_weak.specs.protected_loads.Retries.{AcquiresAtLast, Loses, Lost, lost_by}
+use Rattle.record_making.specs.directory_law.Cells.{Area}
+use Rattle.record_making.specs.directory_law.Lessons.{SeeTells, see_next}
+use Rattle.text_reading.proofs.Below.snapshot_ptr.Under.{IsFreeWord}
+use Rattle.record_making.specs.directory_calls.Steps.{GoesOn}
+use Rattle.record_making.proofs.Below.directory_calls.Learnt.{see_learns}
+use Rattle.record_making.proofs.Below.directory_calls.Parts.{LearnsBy, Place, lift_learns, lifts, part_none, part_then, tells}
 
 module _ {P V : Type 0} (fits : List ℕ → Type 0) (d : DomainState P) (l : Place V) (z : Area)
     (i j : ℕ) (old : SeatState V) where

@@ -1,26 +1,26 @@
 -- What a seat meets in a record that it owns, once it has read the whole text.
 use Rattle.std.proofs.Common.{◌≡◌, ◌≢◌, inl, inr, ℕ, ◌+◌, ◌<◌, ◌≤◌, List, [], ◌∷◌, ◌++◌, refl, sym, ap, subst, ◌∙◌, arith}
 use Rattle.std.specs.Prelude.{Bool}
-use Rattle.plain_state.specs.declared.slot.SlotId.{SlotId}
-use Rattle.plain_state.specs.Lists.{times}
-use Rattle.plain_protocol.specs.Owns.{Object}
-use Rattle.core_events.specs.Views.{without}
-use Rattle.core_law.proofs.Kit.{times_push, times_without}
-use Rattle.domain_rule.specs.Views.{object_in}
-use Rattle.acquire_retire.specs.Domains.{DomainState}
-use Rattle.acquire_retire.specs.Seats.{SeatState}
-use Rattle.counted_handles.specs.Handles.{Handle}
-use Rattle.directory_law.specs.declared.view.Ran.{Ran}
-use Rattle.directory_law.specs.Cells.{Area}
-use Rattle.directory_law.specs.Law.{IsBound}
-use Rattle.directory_law.specs.Lessons.{spent}
-use Rattle.directory_law.specs.Payloads.{IsText, Text}
-use Rattle.directory_law.specs.Views.{In}
-use Rattle.directory_law.specs.Walks.{NotPrefix}
-use Rattle.directory_calls.specs.Directories.{CanCount}
-use Rattle.directory_calls.specs.Steps.{AtStep, Leaves}
-use Rattle.directory_calls.proofs.Going.{from_earlier, holds_by, leaves_as, leaves_then, seat_same}
-use Rattle.directory_calls.proofs.Parts.{LearnsBy, Place, zero_then}
+use Rattle.atomic_weak.specs.plain_state.declared.slot.SlotId.{SlotId}
+use Rattle.atomic_weak.specs.plain_state.Lists.{times}
+use Rattle.atomic_weak.specs.plain_protocol.Owns.{Object}
+use Rattle.atomic_weak.specs.core_events.Views.{without}
+use Rattle.atomic_weak.proofs.Below.core_law.Kit.{times_push, times_without}
+use Rattle.atomic_weak.specs.domain_rule.Views.{object_in}
+use Rattle.atomic_weak.specs.acquire_retire.Domains.{DomainState}
+use Rattle.atomic_weak.specs.acquire_retire.Seats.{SeatState}
+use Rattle.atomic_weak.specs.counted_handles.Handles.{Handle}
+use Rattle.record_making.specs.directory_law.declared.view.Ran.{Ran}
+use Rattle.record_making.specs.directory_law.Cells.{Area}
+use Rattle.record_making.specs.directory_law.Law.{IsBound}
+use Rattle.record_making.specs.directory_law.Lessons.{spent}
+use Rattle.record_making.specs.directory_law.Payloads.{IsText, Text}
+use Rattle.record_making.specs.directory_law.Views.{In}
+use Rattle.record_making.specs.directory_law.Walks.{NotPrefix}
+use Rattle.record_making.specs.directory_calls.Directories.{CanCount}
+use Rattle.record_making.specs.directory_calls.Steps.{AtStep, Leaves}
+use Rattle.record_making.proofs.Below.directory_calls.Going.{from_earlier, holds_by, leaves_as, leaves_then, seat_same}
+use Rattle.record_making.proofs.Below.directory_calls.Parts.{LearnsBy, Place, zero_then}
 use Rattle.text_reading.specs.Reading.{HasRead}
 use Rattle.weak_intern.specs.declared.looking.Sight.TheVariants as sight
 use Rattle.weak_intern.specs.Knowing.{Knows}

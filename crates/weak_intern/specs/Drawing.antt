@@ -1,13 +1,13 @@
 -- What the draw of a ticket does.
 use Rattle.std.specs.Prelude.{ℕ, ◌≡◌, ◌+◌, List, [], ◌∷◌, ◌++◌}
-use Rattle.plain_state.specs.declared.slot.SlotId.{SlotId}
-use Rattle.core_events.specs.declared.view.Move.{Move}
-use Rattle.core_events.specs.Views.{Holds}
-use Rattle.domain_rule.specs.Views.{object_in}
-use Rattle.acquire_retire.specs.Seats.{SeatState}
-use Rattle.directory_law.specs.declared.view.View.{View}
-use Rattle.directory_law.specs.Cells.{Area}
-use Rattle.directory_law.specs.Lessons.{drawn}
+use Rattle.atomic_weak.specs.plain_state.declared.slot.SlotId.{SlotId}
+use Rattle.atomic_weak.specs.core_events.declared.view.Move.{Move}
+use Rattle.atomic_weak.specs.core_events.Views.{Holds}
+use Rattle.atomic_weak.specs.domain_rule.Views.{object_in}
+use Rattle.atomic_weak.specs.acquire_retire.Seats.{SeatState}
+use Rattle.record_making.specs.directory_law.declared.view.View.{View}
+use Rattle.record_making.specs.directory_law.Cells.{Area}
+use Rattle.record_making.specs.directory_law.Lessons.{drawn}
 
 -- The seat has drawn ticket t: that is one add, and the directory's interns of t are the seat's.
 -- What it has beside, and what it knows of the objects that it holds, is as it was.

@@ -1,24 +1,24 @@
 -- What an intern does, and what it adds to the view of its seat.
 use Rattle.std.specs.Prelude.{Bool, true, false, ◌≡◌, ◌⊎◌, ◌+◌, ◌<◌, ℕ, List, Option, Some, None, Result, Ok, Err}
-use Rattle.plain_state.specs.declared.slot.SlotId.{SlotId}
-use Rattle.acquire_retire.specs.Domains.{DomainState}
-use Rattle.acquire_retire.specs.Seats.{SeatState}
-use Rattle.counted_handles.specs.Handles.{Handle}
-use Rattle.directory_law.specs.declared.view.Note.{Note}
-use Rattle.directory_law.specs.declared.view.Seen.{Seen}
-use Rattle.directory_law.specs.declared.view.Ran.{Ran}
-use Rattle.directory_law.specs.declared.view.Led.{Led}
-use Rattle.directory_law.specs.declared.view.View.{View}
-use Rattle.directory_law.specs.Cells.{Area, on}
-use Rattle.directory_law.specs.Law.{IsBound}
-use Rattle.directory_law.specs.Making.{bound}
-use Rattle.directory_law.specs.Views.{In}
-use Rattle.directory_law.specs.Payloads.{Text}
-use Rattle.directory_law.specs.Walks.{Walked}
-use Rattle.directory_protocol.specs.Keeping.{KeepsAll}
-use Rattle.directory_calls.specs.Directories.{IsRecord}
+use Rattle.atomic_weak.specs.plain_state.declared.slot.SlotId.{SlotId}
+use Rattle.atomic_weak.specs.acquire_retire.Domains.{DomainState}
+use Rattle.atomic_weak.specs.acquire_retire.Seats.{SeatState}
+use Rattle.atomic_weak.specs.counted_handles.Handles.{Handle}
+use Rattle.record_making.specs.directory_law.declared.view.Note.{Note}
+use Rattle.record_making.specs.directory_law.declared.view.Seen.{Seen}
+use Rattle.record_making.specs.directory_law.declared.view.Ran.{Ran}
+use Rattle.record_making.specs.directory_law.declared.view.Led.{Led}
+use Rattle.record_making.specs.directory_law.declared.view.View.{View}
+use Rattle.record_making.specs.directory_law.Cells.{Area, on}
+use Rattle.record_making.specs.directory_law.Law.{IsBound}
+use Rattle.record_making.specs.directory_law.Making.{bound}
+use Rattle.record_making.specs.directory_law.Views.{In}
+use Rattle.record_making.specs.directory_law.Payloads.{Text}
+use Rattle.record_making.specs.directory_law.Walks.{Walked}
+use Rattle.record_making.specs.directory_protocol.Keeping.{KeepsAll}
+use Rattle.record_making.specs.directory_calls.Directories.{IsRecord}
 use Rattle.record_making.specs.Making.{candidate_in}
-use Rattle.directory_calls.specs.Steps.{AfterStep, AtStep}
+use Rattle.record_making.specs.directory_calls.Steps.{AfterStep, AtStep}
 
 -- the walk of a text has passed some cells, and comes to cell c then
 abbrev pub ComesBy : Area → View → Text → ℕ → Type 0

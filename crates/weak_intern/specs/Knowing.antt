@@ -1,13 +1,13 @@
 -- What a seat knows of the text of a record.
 use Rattle.std.specs.Prelude.{ℕ, ◌≡◌, ◌⊎◌, List}
-use Rattle.plain_state.specs.declared.slot.SlotId.{SlotId}
-use Rattle.domain_rule.specs.Views.{object_in}
-use Rattle.acquire_retire.specs.Seats.{SeatState}
-use Rattle.directory_law.specs.Bytes.{IsTextOf}
-use Rattle.directory_law.specs.Payloads.{IsText, Text}
-use Rattle.directory_law.specs.declared.view.Ran.{Ran}
-use Rattle.directory_law.specs.declared.view.View.{View}
-use Rattle.directory_law.specs.Views.{In, rope}
+use Rattle.atomic_weak.specs.plain_state.declared.slot.SlotId.{SlotId}
+use Rattle.atomic_weak.specs.domain_rule.Views.{object_in}
+use Rattle.atomic_weak.specs.acquire_retire.Seats.{SeatState}
+use Rattle.record_making.specs.directory_law.Bytes.{IsTextOf}
+use Rattle.record_making.specs.directory_law.Payloads.{IsText, Text}
+use Rattle.record_making.specs.directory_law.declared.view.Ran.{Ran}
+use Rattle.record_making.specs.directory_law.declared.view.View.{View}
+use Rattle.record_making.specs.directory_law.Views.{In, rope}
 use Rattle.weak_intern.specs.Seeing.{HasSeenIn}
 
 -- the seat bound this text for s, or saw s in a cell and read the whole text; in the life in which

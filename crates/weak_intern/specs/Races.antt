@@ -1,12 +1,12 @@
 -- That a call lost a race for a cell, and why a call ran out of adds.
 use Rattle.std.specs.Prelude.{ℕ, ◌≡◌, ◌⊎◌, ◌+◌, ◌≤◌, List, [], ◌∷◌, ◌++◌, Some, None}
-use Rattle.plain_state.specs.declared.act.EventPlace.TheVariants.{WeakCell}
-use Rattle.plain_state.specs.declared.slot.SlotId.{SlotId}
-use Rattle.core_events.specs.declared.act.Act.TheVariants as act
-use Rattle.core_events.specs.declared.outcome.Outcome.TheVariants as outcome
-use Rattle.core_events.specs.declared.view.CoreView.{CoreView}
-use Rattle.core_events.specs.declared.view.Move.{Move}
-use Rattle.acquire_retire.specs.Collecting.{move}
+use Rattle.atomic_weak.specs.plain_state.declared.act.EventPlace.TheVariants.{WeakCell}
+use Rattle.atomic_weak.specs.plain_state.declared.slot.SlotId.{SlotId}
+use Rattle.atomic_weak.specs.core_events.declared.act.Act.TheVariants as act
+use Rattle.atomic_weak.specs.core_events.declared.outcome.Outcome.TheVariants as outcome
+use Rattle.atomic_weak.specs.core_events.declared.view.CoreView.{CoreView}
+use Rattle.atomic_weak.specs.core_events.declared.view.Move.{Move}
+use Rattle.atomic_weak.specs.acquire_retire.Collecting.{move}
 
 -- a weak reference to s was counted, and weak cell i, which was to be null, held another slot
 abbrev pub missed_by : ℕ → SlotId → SlotId → List Move

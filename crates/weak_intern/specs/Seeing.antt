@@ -1,18 +1,18 @@
 -- What a seat sees in one cell of a directory.
 use Rattle.std.specs.Prelude.{ℕ, ◌≡◌, ◌∷◌, Option, Some, None}
-use Rattle.plain_state.specs.declared.slot.SlotId.{SlotId}
-use Rattle.plain_state.specs.State.{Plain}
-use Rattle.domain_rule.specs.Views.{object_in}
-use Rattle.acquire_retire.specs.Domains.{DomainState}
-use Rattle.acquire_retire.specs.Seats.{SeatState}
-use Rattle.directory_law.specs.Payloads.{Text, IsText}
-use Rattle.directory_law.specs.declared.view.Seen.{Seen}
-use Rattle.directory_law.specs.declared.view.View.{View}
-use Rattle.directory_law.specs.Views.{In}
-use Rattle.directory_law.specs.Cells.{Area, on}
-use Rattle.directory_law.specs.Law.{IsBound, NoneBound}
-use Rattle.directory_law.specs.Walks.{Walked}
-use Rattle.directory_calls.specs.Steps.{AtStep}
+use Rattle.atomic_weak.specs.plain_state.declared.slot.SlotId.{SlotId}
+use Rattle.atomic_weak.specs.plain_state.State.{Plain}
+use Rattle.atomic_weak.specs.domain_rule.Views.{object_in}
+use Rattle.atomic_weak.specs.acquire_retire.Domains.{DomainState}
+use Rattle.atomic_weak.specs.acquire_retire.Seats.{SeatState}
+use Rattle.record_making.specs.directory_law.Payloads.{Text, IsText}
+use Rattle.record_making.specs.directory_law.declared.view.Seen.{Seen}
+use Rattle.record_making.specs.directory_law.declared.view.View.{View}
+use Rattle.record_making.specs.directory_law.Views.{In}
+use Rattle.record_making.specs.directory_law.Cells.{Area, on}
+use Rattle.record_making.specs.directory_law.Law.{IsBound, NoneBound}
+use Rattle.record_making.specs.directory_law.Walks.{Walked}
+use Rattle.record_making.specs.directory_calls.Steps.{AtStep}
 
 -- what the seat has in s, as a head that it saw in a cell
 abbrev pub seen_in : {V : Type 0} → ℕ → SlotId → SeatState V → Seen

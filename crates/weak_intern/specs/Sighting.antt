@@ -1,24 +1,24 @@
 -- What a seat has while it sees a head of a cell, and by which moves it comes to that and goes on.
 use Rattle.std.specs.Prelude.{ℕ, ◌≡◌, ◌≢◌, ◌-◌, ◌<◌, ◌≤◌, Bool, true, false, List, [], ◌∷◌, ◌++◌, length, slice_index, Option, Some, None, Result, Ok, Err}
-use Rattle.plain_state.specs.declared.act.EventPlace.TheVariants.{WeakCell}
-use Rattle.plain_state.specs.declared.slot.Kind.TheVariants.{Weak}
-use Rattle.plain_state.specs.declared.slot.SlotId.{SlotId}
-use Rattle.core_events.specs.declared.act.Act.TheVariants as act
-use Rattle.core_events.specs.declared.outcome.Outcome.TheVariants as outcome
-use Rattle.core_events.specs.declared.view.CoreView.{CoreView}
-use Rattle.core_events.specs.declared.view.Move.{Move}
-use Rattle.core_events.specs.declared.view.Note.TheVariants as note
-use Rattle.core_events.specs.Steps.{with_note}
-use Rattle.core_events.specs.Views.{note_of}
-use Rattle.acquire_retire.specs.Collecting.{move}
-use Rattle.acquire_retire.specs.Notes.{least_free}
-use Rattle.acquire_retire.specs.Seats.{SeatState}
-use Rattle.counted_handles.specs.Handles.{Handle}
-use Rattle.control_word.specs.declared.upgrading.UpgradeError.{UpgradeError}
-use Rattle.control_word.specs.declared.upgrading.UpgradeError.TheVariants as no_raise
-use Rattle.control_word.specs.Calls.{with_add, with_strong}
-use Rattle.protected_loads.specs.Loads.{protected_by}
-use Rattle.protected_loads.specs.Retries.{Lost, lost_by}
+use Rattle.atomic_weak.specs.plain_state.declared.act.EventPlace.TheVariants.{WeakCell}
+use Rattle.atomic_weak.specs.plain_state.declared.slot.Kind.TheVariants.{Weak}
+use Rattle.atomic_weak.specs.plain_state.declared.slot.SlotId.{SlotId}
+use Rattle.atomic_weak.specs.core_events.declared.act.Act.TheVariants as act
+use Rattle.atomic_weak.specs.core_events.declared.outcome.Outcome.TheVariants as outcome
+use Rattle.atomic_weak.specs.core_events.declared.view.CoreView.{CoreView}
+use Rattle.atomic_weak.specs.core_events.declared.view.Move.{Move}
+use Rattle.atomic_weak.specs.core_events.declared.view.Note.TheVariants as note
+use Rattle.atomic_weak.specs.core_events.Steps.{with_note}
+use Rattle.atomic_weak.specs.core_events.Views.{note_of}
+use Rattle.atomic_weak.specs.acquire_retire.Collecting.{move}
+use Rattle.atomic_weak.specs.acquire_retire.Notes.{least_free}
+use Rattle.atomic_weak.specs.acquire_retire.Seats.{SeatState}
+use Rattle.atomic_weak.specs.counted_handles.Handles.{Handle}
+use Rattle.atomic_weak.specs.control_word.declared.upgrading.UpgradeError.{UpgradeError}
+use Rattle.atomic_weak.specs.control_word.declared.upgrading.UpgradeError.TheVariants as no_raise
+use Rattle.atomic_weak.specs.control_word.Calls.{with_add, with_strong}
+use Rattle.atomic_weak.specs.protected_loads.Loads.{protected_by}
+use Rattle.atomic_weak.specs.protected_loads.Retries.{Lost, lost_by}
 use Rattle.weak_intern.specs.declared.seeing.Sighted.{Sighted}
 
 -- the slot of the head that a cell held, if it held one

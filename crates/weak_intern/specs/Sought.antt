@@ -1,8 +1,8 @@
 -- What a walk looks for, and what a kind of payloads tells of it.
 use Rattle.std.specs.Prelude.{ℕ, ◌≡◌, ◌<◌, ◌^◌, List, ◌∷◌, length}
-use Rattle.directory_law.specs.Payloads.{IsOwn, Text, size}
-use Rattle.directory_law.specs.Bytes.{AreBytes, IsPiece, IsTextOf}
-use Rattle.directory_law.specs.Places.{text_hash}
+use Rattle.record_making.specs.directory_law.Payloads.{IsOwn, Text, size}
+use Rattle.record_making.specs.directory_law.Bytes.{AreBytes, IsPiece, IsTextOf}
+use Rattle.record_making.specs.directory_law.Places.{text_hash}
 use Rattle.record_making.specs.Texts.{text_of}
 
 -- the text of these bytes begins with this head, and its place is taken from this number

@@ -1,28 +1,28 @@
 -- What a walk meets, and what a find answers.
 use Rattle.std.specs.Prelude.{Bool, false, true, ℕ, ◌≡◌, ◌⊎◌, ◌<◌, List, Option, Some, None, Result, Ok, Err}
-use Rattle.plain_state.specs.declared.slot.SlotId.{SlotId}
-use Rattle.core_events.specs.declared.view.CoreView.{CoreView}
-use Rattle.counted_handles.specs.Handles.{Handle}
-use Rattle.acquire_retire.specs.Domains.{DomainState}
-use Rattle.acquire_retire.specs.Seats.{SeatState}
+use Rattle.atomic_weak.specs.plain_state.declared.slot.SlotId.{SlotId}
+use Rattle.atomic_weak.specs.core_events.declared.view.CoreView.{CoreView}
+use Rattle.atomic_weak.specs.counted_handles.Handles.{Handle}
+use Rattle.atomic_weak.specs.acquire_retire.Domains.{DomainState}
+use Rattle.atomic_weak.specs.acquire_retire.Seats.{SeatState}
 use Rattle.atomic_weak.specs.Places.{named}
-use Rattle.directory_law.specs.declared.view.View.{View}
-use Rattle.directory_law.specs.Cells.{Area}
-use Rattle.directory_law.specs.Lessons.{spent}
-use Rattle.directory_law.specs.Law.{IsBound, NoneBound}
-use Rattle.directory_law.specs.Payloads.{Text}
-use Rattle.directory_law.specs.Walks.{Passes, Walked}
+use Rattle.record_making.specs.directory_law.declared.view.View.{View}
+use Rattle.record_making.specs.directory_law.Cells.{Area}
+use Rattle.record_making.specs.directory_law.Lessons.{spent}
+use Rattle.record_making.specs.directory_law.Law.{IsBound, NoneBound}
+use Rattle.record_making.specs.directory_law.Payloads.{Text}
+use Rattle.record_making.specs.directory_law.Walks.{Passes, Walked}
 use Rattle.weak_intern.specs.declared.looking.Sight.{Sight}
 use Rattle.weak_intern.specs.declared.looking.Sight.TheVariants as sight
 use Rattle.weak_intern.specs.declared.walking.Walk.{Walk}
 use Rattle.weak_intern.specs.declared.walking.Walk.TheVariants as walk
-use Rattle.directory_calls.specs.Directories.{HasNoRecord, IsRecord}
+use Rattle.record_making.specs.directory_calls.Directories.{HasNoRecord, IsRecord}
 use Rattle.weak_intern.specs.Knowing.{Knows}
 use Rattle.weak_intern.specs.Seeing.{EndsAt, HasSeenAt}
 use Rattle.weak_intern.specs.declared.seeing.Sighted.{Sighted}
 use Rattle.weak_intern.specs.Costs.{TakesBy}
 use Rattle.weak_intern.specs.Sighting.{Ends, Raises, Sights, Visits}
-use Rattle.directory_calls.specs.Steps.{AtStep}
+use Rattle.record_making.specs.directory_calls.Steps.{AtStep}
 
 -- the record that a walk met, if it met one
 abbrev pub met : Sight → Option SlotId

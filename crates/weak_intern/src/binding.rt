@@ -1,25 +1,22 @@
 //! A record goes into a cell.
 ghost use Rattle.std.specs.Prelude.{true, false, ◌≡◌, ◌+◌, ◌<◌, ◌↔◌, IfOk, IsErr, Ok, OnErr};
-ghost use Rattle.plain_state.specs.Lists.{times};
-ghost use Rattle.core_events.specs.Steps.{HasRoom};
-ghost use Rattle.control_word.specs.Resting.{IsAtRest, IsSpent};
-ghost use Rattle.directory_calls.specs.Directories.{CanCount, IsOver, area_of};
+ghost use Rattle.atomic_weak.specs.plain_state.Lists.{times};
+ghost use Rattle.atomic_weak.specs.core_events.Steps.{HasRoom};
+ghost use Rattle.atomic_weak.specs.control_word.Resting.{IsAtRest, IsSpent};
+ghost use Rattle.record_making.specs.directory_calls.Directories.{CanCount, IsOver, area_of};
 ghost use Rattle.weak_intern.specs.Interning.{Binds, ComesBy};
 ghost use Rattle.weak_intern.specs.Races.{MissesCell};
 ghost use Rattle.record_making.specs.Making.{HasNotedLast, candidate_in};
 ghost use Rattle.record_making.specs.Texts.{text_of};
 ghost use Rattle.weak_intern.specs.Sought.{IsSought};
-ghost use Rattle.directory_calls.specs.Steps.{Leaves};
+ghost use Rattle.record_making.specs.directory_calls.Steps.{Leaves};
 
 use crate::seeing::number;
 use crate::sought::Sought;
-use acquire_retire::{Domain, Seat};
-use atomic_weak::{WeakPlace, try_replace_weak};
-use control_word::{drop_weak, weaken};
-use counted_handles::{Spent, Strong, Weak};
-use directory_calls::Directory;
-use directory_protocol::{BindHead, DirectoryLaw, HasDirectory};
-use protocol_pairs::InPart;
+use atomic_weak::{
+    Domain, Seat, Spent, Strong, Weak, WeakPlace, drop_weak, try_replace_weak, weaken,
+};
+use record_making::{BindHead, Directory, DirectoryLaw, HasDirectory, InPart};
 
 /// Puts a weak reference to the slot that was noted last into a cell to which the walk of its text
 /// comes, where that cell is null; and whether it was so. Then an intern of the seat is used.

@@ -1,16 +1,15 @@
 //! Whether a head has a text.
 ghost use Rattle.std.specs.Prelude.{◌≡◌, ◌↔◌, length, true};
-ghost use Rattle.core_events.specs.Steps.{HasRoom};
-ghost use Rattle.core_events.specs.Views.{Holds};
-ghost use Rattle.control_word.specs.Moves.{KnowsStill};
-ghost use Rattle.control_word.specs.Resting.{IsAtRest};
-ghost use Rattle.domain_rule.specs.Views.{object_in};
-ghost use Rattle.directory_calls.specs.Steps.{Leaves};
+ghost use Rattle.atomic_weak.specs.core_events.Steps.{HasRoom};
+ghost use Rattle.atomic_weak.specs.core_events.Views.{Holds};
+ghost use Rattle.atomic_weak.specs.control_word.Moves.{KnowsStill};
+ghost use Rattle.atomic_weak.specs.control_word.Resting.{IsAtRest};
+ghost use Rattle.atomic_weak.specs.domain_rule.Views.{object_in};
+ghost use Rattle.record_making.specs.directory_calls.Steps.{Leaves};
 ghost use Rattle.weak_intern.specs.Sighting.{Compares};
 
-use acquire_retire::{Domain, Seat, SlotId};
-use plain_protocol::Protocol;
-use slot_store::read;
+use atomic_weak::{Domain, Protocol, Seat, SlotId};
+use record_making::read;
 
 /// Whether the object in a slot that the seat holds has this payload. At most 16 steps.
 pub fn is_payload<P: Protocol>(

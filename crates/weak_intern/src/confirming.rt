@@ -1,16 +1,16 @@
 //! Whether a record whose head is that of a long text has the whole text.
 ghost use Rattle.std.specs.Prelude.{true, ◌≡◌, ◌≢◌, ◌↔◌, ◌<◌};
-ghost use Rattle.plain_state.specs.Lists.{times};
-ghost use Rattle.core_events.specs.Steps.{HasRoom};
-ghost use Rattle.core_events.specs.Views.{without};
-ghost use Rattle.control_word.specs.Resting.{IsAtRest};
-ghost use Rattle.domain_rule.specs.Views.{object_in};
-ghost use Rattle.directory_law.specs.Law.{IsBound};
-ghost use Rattle.directory_law.specs.Lessons.{spent};
-ghost use Rattle.directory_law.specs.Payloads.{Text};
-ghost use Rattle.directory_calls.specs.Directories.{CanCount, area_of};
-ghost use Rattle.directory_calls.specs.Learning.{LearnsIn};
-ghost use Rattle.directory_calls.specs.Steps.{AtStep, Leaves, with_found};
+ghost use Rattle.atomic_weak.specs.plain_state.Lists.{times};
+ghost use Rattle.atomic_weak.specs.core_events.Steps.{HasRoom};
+ghost use Rattle.atomic_weak.specs.core_events.Views.{without};
+ghost use Rattle.atomic_weak.specs.control_word.Resting.{IsAtRest};
+ghost use Rattle.atomic_weak.specs.domain_rule.Views.{object_in};
+ghost use Rattle.record_making.specs.directory_law.Law.{IsBound};
+ghost use Rattle.record_making.specs.directory_law.Lessons.{spent};
+ghost use Rattle.record_making.specs.directory_law.Payloads.{Text};
+ghost use Rattle.record_making.specs.directory_calls.Directories.{CanCount, area_of};
+ghost use Rattle.record_making.specs.directory_calls.Learning.{LearnsIn};
+ghost use Rattle.record_making.specs.directory_calls.Steps.{AtStep, Leaves, with_found};
 ghost use Rattle.record_making.specs.Texts.{text_of};
 ghost use Rattle.text_reading.specs.Reading.{HasBegun, HasRead, HasTwoFree};
 ghost use Rattle.weak_intern.specs.declared.looking.Sight.TheVariants as sight;
@@ -20,11 +20,8 @@ ghost use Rattle.weak_intern.specs.Walking.{MeetsIn, met, taken};
 
 use crate::looking::Sight;
 use crate::sought::Sought;
-use acquire_retire::{Domain, EventPlace, Seat, SlotId};
-use control_word::drop_strong;
-use counted_handles::Strong;
-use directory_protocol::{AnswerHead, DirectoryLaw, HasDirectory};
-use protocol_pairs::InPart;
+use atomic_weak::{Domain, EventPlace, Seat, SlotId, Strong, drop_strong};
+use record_making::{AnswerHead, DirectoryLaw, HasDirectory, InPart};
 use text_reading::read_text;
 
 /// What a seat meets in a record that it owns, of which it has begun to read the head, and which

@@ -1,17 +1,15 @@
 //! Tickets, which give a seat interns.
 ghost use Rattle.std.specs.Prelude.{ℕ, ◌≡◌, ◌↔◌, IfOk, IsErr, OnErr};
-ghost use Rattle.plain_state.specs.declared.act.PlainAct.TheVariants as plain;
-ghost use Rattle.plain_protocol.specs.Owns.{OwnPart};
-ghost use Rattle.core_events.specs.declared.outcome.Outcome.TheVariants as outcome;
-ghost use Rattle.core_events.specs.Steps.{HasRoom};
-ghost use Rattle.control_word.specs.Resting.{IsAtRest, IsSpent};
-ghost use Rattle.directory_calls.specs.Directories.{area_of};
+ghost use Rattle.atomic_weak.specs.plain_state.declared.act.PlainAct.TheVariants as plain;
+ghost use Rattle.atomic_weak.specs.plain_protocol.Owns.{OwnPart};
+ghost use Rattle.atomic_weak.specs.core_events.declared.outcome.Outcome.TheVariants as outcome;
+ghost use Rattle.atomic_weak.specs.core_events.Steps.{HasRoom};
+ghost use Rattle.atomic_weak.specs.control_word.Resting.{IsAtRest, IsSpent};
+ghost use Rattle.record_making.specs.directory_calls.Directories.{area_of};
 ghost use Rattle.weak_intern.specs.Drawing.{Draws};
 
-use acquire_retire::{Domain, Outcome, Seat};
-use counted_handles::Spent;
-use directory_protocol::{DirectoryLaw, DrawTicket, HasDirectory};
-use protocol_pairs::InPart;
+use atomic_weak::{Domain, Outcome, Seat, Spent};
+use record_making::{DirectoryLaw, DrawTicket, HasDirectory, InPart};
 
 /// Draws the next ticket, and answers its number: from then on the seat has the interns that the
 /// directory gives with it. `Spent` exactly where the seat has no add left, and then nothing has

@@ -1,11 +1,11 @@
 //! The live record of a text.
 ghost use Rattle.std.specs.Prelude.{◌+◌, ◌≤◌, IfOk, IfSome, IsErr, length, take};
-ghost use Rattle.core_events.specs.Steps.{HasRoom};
+ghost use Rattle.atomic_weak.specs.core_events.Steps.{HasRoom};
 ghost use Rattle.atomic_weak.specs.Places.{named};
-ghost use Rattle.control_word.specs.Resting.{IsAtRest, IsSpent};
-ghost use Rattle.directory_calls.specs.Directories.{HasQuota, IsOver, area_of};
-ghost use Rattle.directory_calls.specs.Learning.{LearnsIn};
-ghost use Rattle.directory_calls.specs.Steps.{Leaves, with_found};
+ghost use Rattle.atomic_weak.specs.control_word.Resting.{IsAtRest, IsSpent};
+ghost use Rattle.record_making.specs.directory_calls.Directories.{HasQuota, IsOver, area_of};
+ghost use Rattle.record_making.specs.directory_calls.Learning.{LearnsIn};
+ghost use Rattle.record_making.specs.directory_calls.Steps.{Leaves, with_found};
 ghost use Rattle.record_making.specs.Texts.{payload_of};
 ghost use Rattle.text_reading.specs.Reading.{HasTwoFree};
 ghost use Rattle.weak_intern.specs.Costs.{TakesBy};
@@ -15,11 +15,8 @@ ghost use Rattle.weak_intern.specs.Walking.{Finds, found_by};
 
 use crate::sought::Sought;
 use crate::walking::{Walk, seek};
-use acquire_retire::{Domain, Seat};
-use counted_handles::{Spent, Strong};
-use directory_calls::Directory;
-use directory_protocol::HasDirectory;
-use record_making::{hash_of, head_of};
+use atomic_weak::{Domain, Seat, Spent, Strong};
+use record_making::{Directory, HasDirectory, hash_of, head_of};
 use std::sync::Wait;
 
 /// A strong reference to the live record of a text of 1 to 4,096 bytes, or None where it had none

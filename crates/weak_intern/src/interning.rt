@@ -1,32 +1,28 @@
 //! The record of a text, which is made where the text has none.
 ghost use Rattle.std.specs.Prelude.{true, ◌≡◌, ◌≢◌, ◌+◌, ◌*◌, ◌<◌, ◌≤◌, Err, IfOk, IsErr, length};
 ghost use Rattle.std.specs.Int.{div_ceil};
-ghost use Rattle.plain_state.specs.Lists.{times};
-ghost use Rattle.core_events.specs.Steps.{HasRoom};
-ghost use Rattle.control_word.specs.Resting.{IsAtRest, IsSpent};
-ghost use Rattle.slot_store.specs.declared.making.MakeError.TheVariants as refused;
-ghost use Rattle.directory_calls.specs.Directories.{CanCount, HasNoRecord, IsOver, area_of};
+ghost use Rattle.atomic_weak.specs.plain_state.Lists.{times};
+ghost use Rattle.atomic_weak.specs.core_events.Steps.{HasRoom};
+ghost use Rattle.atomic_weak.specs.control_word.Resting.{IsAtRest, IsSpent};
+ghost use Rattle.record_making.specs.slot_store.declared.making.MakeError.TheVariants as refused;
+ghost use Rattle.record_making.specs.directory_calls.Directories.{CanCount, HasNoRecord, IsOver, area_of};
 ghost use Rattle.weak_intern.specs.Interning.{GrowsIn, HasPassed, Interns, Places, interned_by, named_or, placed_by};
 ghost use Rattle.weak_intern.specs.Races.{IsWhyShort};
 ghost use Rattle.record_making.specs.Making.{HasNotedLast, MissesWithin, candidate_in};
 ghost use Rattle.record_making.specs.Texts.{text_of};
-ghost use Rattle.slot_store.specs.Calls.{HasNoMake};
+ghost use Rattle.record_making.specs.slot_store.Calls.{HasNoMake};
 ghost use Rattle.weak_intern.specs.Knowing.{Knows, KnowsRecord};
 ghost use Rattle.text_reading.specs.Reading.{HasTwoFree};
 ghost use Rattle.weak_intern.specs.Sought.{HasPieces, IsSought};
-ghost use Rattle.directory_calls.specs.Steps.{AtStep, Leaves, handle_by, with_found};
+ghost use Rattle.record_making.specs.directory_calls.Steps.{AtStep, Leaves, handle_by, with_found};
 ghost use Rattle.weak_intern.specs.Walking.{found_by};
 
 use crate::binding::bind;
 use crate::looking::{Sight, look};
 use crate::sought::Sought;
 use crate::walking::{Walk, come_around, seek};
-use acquire_retire::{Domain, Seat};
-use control_word::drop_strong;
-use counted_handles::{Spent, Strong};
-use directory_calls::Directory;
-use directory_protocol::HasDirectory;
-use record_making::{MakeError, cell_on, hash_of, head_of, make_record};
+use atomic_weak::{Domain, Seat, Spent, Strong, drop_strong};
+use record_making::{Directory, HasDirectory, MakeError, cell_on, hash_of, head_of, make_record};
 use std::sync::Wait;
 
 /// A strong reference to the live record of a text of 1 to 4,096 bytes, which it makes where the

@@ -37,15 +37,17 @@ mod looking;
 mod raising;
 mod seeing;
 mod sought;
-#[cfg(test)]
-mod tests;
 mod walking;
 
+pub use atomic_weak::{copy_strong, drop_strong};
 pub use comparing::is_payload;
-pub use directory_calls::Directory;
 pub use drawing::draw;
 pub use finding::find;
 pub use interning::intern;
 pub use raising::raise;
-pub use record_making::{MakeError, cell_on, hash_of, head_of};
+pub use record_making::{
+    Directory, DirectoryLaw, ForgetEnded, MakeError, RecordKind, cell_on, hash_of, head_of,
+    part_at, try_load,
+};
 pub use seeing::{Sighted, let_go, see};
+pub use text_reading::{pairs_have_pieces, read_text};

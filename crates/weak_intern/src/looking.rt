@@ -1,17 +1,17 @@
 //! What the walk of a text meets in one cell.
 ghost use Rattle.std.specs.Prelude.{ℕ, ◌≡◌, ◌≢◌, ◌+◌, ◌<◌, ◌≤◌, IfOk, IsErr, None, Ok, length};
-ghost use Rattle.core_events.specs.Steps.{HasRoom};
-ghost use Rattle.control_word.specs.Resting.{IsAtRest, IsSpent};
-ghost use Rattle.domain_rule.specs.Views.{object_in};
-ghost use Rattle.directory_calls.specs.Directories.{CanCount, IsOver, area_of};
-ghost use Rattle.directory_calls.specs.Learning.{LearnsIn};
+ghost use Rattle.atomic_weak.specs.core_events.Steps.{HasRoom};
+ghost use Rattle.atomic_weak.specs.control_word.Resting.{IsAtRest, IsSpent};
+ghost use Rattle.atomic_weak.specs.domain_rule.Views.{object_in};
+ghost use Rattle.record_making.specs.directory_calls.Directories.{CanCount, IsOver, area_of};
+ghost use Rattle.record_making.specs.directory_calls.Learning.{LearnsIn};
 ghost use Rattle.record_making.specs.Texts.{text_of};
 ghost use Rattle.weak_intern.specs.Seeing.{HasSeenIn};
 ghost use Rattle.weak_intern.specs.declared.looking.Sight.TheVariants as sight;
 ghost use Rattle.weak_intern.specs.Sighting.{IsSighted, Sights, let_go_of, seat_without};
 ghost use Rattle.text_reading.specs.Reading.{HasTwoFree};
 ghost use Rattle.weak_intern.specs.Sought.{HasPieces, IsSought};
-ghost use Rattle.directory_calls.specs.Steps.{Leaves, with_found};
+ghost use Rattle.record_making.specs.directory_calls.Steps.{Leaves, with_found};
 ghost use Rattle.weak_intern.specs.Walking.{EndsBy, LooksBy, Meets, MeetsIn, RaisesBy, met_by, taken_by};
 
 use crate::comparing::is_payload;
@@ -19,11 +19,8 @@ use crate::confirming::confirm;
 use crate::raising::raise;
 use crate::seeing::{Sighted, let_go, see};
 use crate::sought::Sought;
-use acquire_retire::{Domain, Seat};
-use control_word::UpgradeError;
-use counted_handles::{Spent, Strong};
-use directory_calls::Directory;
-use directory_protocol::HasDirectory;
+use atomic_weak::{Domain, Seat, Spent, Strong, UpgradeError};
+use record_making::{Directory, HasDirectory};
 use std::sync::Wait;
 
 /// What a walk meets in one cell.

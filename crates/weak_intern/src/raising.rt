@@ -1,31 +1,27 @@
 //! Whether a head that a seat sees still lives.
 ghost use Rattle.std.specs.Prelude.{◌≡◌, ◌<◌, ◌↔◌, Err, IfOk};
-ghost use Rattle.plain_state.specs.Lists.{times};
-ghost use Rattle.core_events.specs.declared.act.Act.TheVariants as act;
-ghost use Rattle.core_events.specs.Steps.{HasRoom};
-ghost use Rattle.core_events.specs.Views.{Holds};
-ghost use Rattle.acquire_retire.specs.Calls.{IsReady};
-ghost use Rattle.control_word.specs.Calls.{FindsEnded, GainsStrong};
-ghost use Rattle.control_word.specs.Moves.{KnowsStill};
-ghost use Rattle.control_word.specs.Resting.{IsAtRest, IsSpent};
-ghost use Rattle.control_word.specs.declared.upgrading.UpgradeError.TheVariants as no_raise;
-ghost use Rattle.domain_rule.specs.Views.{object_in};
-ghost use Rattle.directory_law.specs.Views.{In, note};
-ghost use Rattle.directory_calls.specs.Directories.{CanCount, area_of};
-ghost use Rattle.directory_calls.specs.Learning.{LearnsIn};
-ghost use Rattle.directory_calls.specs.Steps.{AtStep, Leaves, handle_by, with_found};
+ghost use Rattle.atomic_weak.specs.plain_state.Lists.{times};
+ghost use Rattle.atomic_weak.specs.core_events.declared.act.Act.TheVariants as act;
+ghost use Rattle.atomic_weak.specs.core_events.Steps.{HasRoom};
+ghost use Rattle.atomic_weak.specs.core_events.Views.{Holds};
+ghost use Rattle.atomic_weak.specs.acquire_retire.Calls.{IsReady};
+ghost use Rattle.atomic_weak.specs.control_word.Calls.{FindsEnded, GainsStrong};
+ghost use Rattle.atomic_weak.specs.control_word.Moves.{KnowsStill};
+ghost use Rattle.atomic_weak.specs.control_word.Resting.{IsAtRest, IsSpent};
+ghost use Rattle.atomic_weak.specs.control_word.declared.upgrading.UpgradeError.TheVariants as no_raise;
+ghost use Rattle.atomic_weak.specs.domain_rule.Views.{object_in};
+ghost use Rattle.record_making.specs.directory_law.Views.{In, note};
+ghost use Rattle.record_making.specs.directory_calls.Directories.{CanCount, area_of};
+ghost use Rattle.record_making.specs.directory_calls.Learning.{LearnsIn};
+ghost use Rattle.record_making.specs.directory_calls.Steps.{AtStep, Leaves, handle_by, with_found};
 ghost use Rattle.text_reading.specs.Reading.{HasBegun};
 ghost use Rattle.weak_intern.specs.Seeing.{BeginsText, HasSeenIn};
 ghost use Rattle.weak_intern.specs.Sighting.{IsSighted, Raises, added, let_go_of, seat_without};
 ghost use Rattle.weak_intern.specs.Walking.{raised_by};
 
 use crate::seeing::{Sighted, let_go};
-use acquire_retire::{Domain, Outcome, Seat, SlotId};
-use control_word::UpgradeError;
-use counted_handles::Strong;
-use directory_protocol::{DirectoryLaw, HasDirectory, UpgradeHead};
-use plain_protocol::{Deed, Protocol};
-use protocol_pairs::InPart;
+use atomic_weak::{Deed, Domain, Outcome, Protocol, Seat, SlotId, Strong, UpgradeError};
+use record_making::{DirectoryLaw, HasDirectory, InPart, UpgradeHead};
 
 /// A strong reference to a head that the seat saw in a cell, which is let go; an intern of the seat
 /// is used with it if that is asked. `Spent` comes first, exactly where the seat has no add left.

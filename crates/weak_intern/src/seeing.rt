@@ -1,23 +1,19 @@
 //! What a seat sees in one cell of a directory.
 ghost use Rattle.std.specs.Prelude.{◌≡◌, ◌≢◌, ◌<◌, ◌+◌, ◌∷◌, [], ◌++◌, None};
-ghost use Rattle.core_events.specs.declared.act.Act.TheVariants as act;
-ghost use Rattle.core_events.specs.declared.outcome.Outcome.TheVariants as outcome;
-ghost use Rattle.core_events.specs.Steps.{HasRoom};
-ghost use Rattle.acquire_retire.specs.Collecting.{move};
-ghost use Rattle.acquire_retire.specs.Notes.{least_free};
-ghost use Rattle.control_word.specs.Moves.{KnowsStill};
-ghost use Rattle.control_word.specs.Resting.{IsAtRest};
-ghost use Rattle.directory_calls.specs.Directories.{IsOver, area_of};
-ghost use Rattle.directory_calls.specs.Learning.{LearnsIn};
+ghost use Rattle.atomic_weak.specs.core_events.declared.act.Act.TheVariants as act;
+ghost use Rattle.atomic_weak.specs.core_events.declared.outcome.Outcome.TheVariants as outcome;
+ghost use Rattle.atomic_weak.specs.core_events.Steps.{HasRoom};
+ghost use Rattle.atomic_weak.specs.acquire_retire.Collecting.{move};
+ghost use Rattle.atomic_weak.specs.acquire_retire.Notes.{least_free};
+ghost use Rattle.atomic_weak.specs.control_word.Moves.{KnowsStill};
+ghost use Rattle.atomic_weak.specs.control_word.Resting.{IsAtRest};
+ghost use Rattle.record_making.specs.directory_calls.Directories.{IsOver, area_of};
+ghost use Rattle.record_making.specs.directory_calls.Learning.{LearnsIn};
 ghost use Rattle.weak_intern.specs.Seeing.{Sees};
 ghost use Rattle.weak_intern.specs.Sighting.{IsSighted, SightsBy, let_go_of, sighted_in};
 
-use acquire_retire::{Domain, EventPlace, Seat, SlotId};
-use directory_calls::Directory;
-use directory_protocol::{DirectoryLaw, HasDirectory, SeeHead};
-use plain_protocol::Protocol;
-use protected_loads::acquire_at_last;
-use protocol_pairs::InPart;
+use atomic_weak::{Domain, EventPlace, Protocol, Seat, SlotId, acquire_at_last};
+use record_making::{Directory, DirectoryLaw, HasDirectory, InPart, SeeHead};
 use std::sync::Wait;
 
 /// A head that a cell held, and the seat's announcement word that keeps its slot from another use,

@@ -1,25 +1,21 @@
 //! The walk of a text over the cells of a directory.
 ghost use Rattle.std.specs.Prelude.{◌≡◌, ◌+◌, ◌≤◌, IfOk, IsErr, length};
-ghost use Rattle.core_events.specs.Steps.{HasRoom};
-ghost use Rattle.control_word.specs.Resting.{IsAtRest, IsSpent};
-ghost use Rattle.directory_calls.specs.Directories.{CanCount, IsOver, area_of};
-ghost use Rattle.directory_calls.specs.Learning.{LearnsIn};
-ghost use Rattle.directory_law.specs.Walks.{FindsRoom};
+ghost use Rattle.atomic_weak.specs.core_events.Steps.{HasRoom};
+ghost use Rattle.atomic_weak.specs.control_word.Resting.{IsAtRest, IsSpent};
+ghost use Rattle.record_making.specs.directory_calls.Directories.{CanCount, IsOver, area_of};
+ghost use Rattle.record_making.specs.directory_calls.Learning.{LearnsIn};
+ghost use Rattle.record_making.specs.directory_law.Walks.{FindsRoom};
 ghost use Rattle.record_making.specs.Texts.{text_of};
 ghost use Rattle.text_reading.specs.Reading.{HasTwoFree};
 ghost use Rattle.weak_intern.specs.Sought.{HasPieces, IsSought};
-ghost use Rattle.directory_calls.specs.Steps.{Leaves, with_found};
+ghost use Rattle.record_making.specs.directory_calls.Steps.{Leaves, with_found};
 ghost use Rattle.weak_intern.specs.Walking.{ComesTo, CostsBy, EndsAround, used_by, walked_by};
 
 use crate::looking::{Sight, look};
 use crate::seeing::number;
 use crate::sought::Sought;
-use acquire_retire::{Domain, EventPlace, Seat};
-use counted_handles::{Spent, Strong};
-use directory_calls::Directory;
-use directory_protocol::{DirectoryLaw, HasDirectory, LookAtCell};
-use protocol_pairs::InPart;
-use record_making::cell_on;
+use atomic_weak::{Domain, EventPlace, Seat, Spent, Strong};
+use record_making::{Directory, DirectoryLaw, HasDirectory, InPart, LookAtCell, cell_on};
 use std::sync::Wait;
 
 /// Where a walk ended.

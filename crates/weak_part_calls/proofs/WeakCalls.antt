@@ -1,32 +1,32 @@
 -- Weak calls as a part sees them, what they leave of a client's view beside, and when the deed of an upgrade is ready.
 use Rattle.std.proofs.Common.{◌≡◌, ℕ, List, [], ◌∷◌, refl, ap, ◌∙◌}
 use Rattle.std.specs.Prelude.{Err, IfOk, Ok, Option, Result}
-use Rattle.plain_state.specs.declared.act.EventPlace.{EventPlace}
-use Rattle.plain_state.specs.declared.act.PlainAct.{PlainAct}
-use Rattle.plain_state.specs.declared.act.PlainAct.TheVariants as plain
-use Rattle.plain_state.specs.declared.slot.SlotId.{SlotId}
-use Rattle.plain_state.specs.State.{Plain}
-use Rattle.plain_protocol.specs.Acts.{Owned}
-use Rattle.plain_protocol.specs.Owns.{OwnPart}
-use Rattle.core_events.specs.declared.act.Act.TheVariants as act
-use Rattle.core_events.specs.declared.view.CoreView.{CoreView}
-use Rattle.core_events.specs.declared.view.Move.{Move}
-use Rattle.core_events.specs.Words.{slot_in}
-use Rattle.counted_handles.specs.Handles.{Handle}
-use Rattle.counted_handles.specs.declared.refusal.LoadError.{LoadError}
-use Rattle.counted_handles.specs.declared.refusal.LoadError.TheVariants as unloaded
-use Rattle.domain_rule.specs.Views.{own_of}
-use Rattle.acquire_retire.specs.Calls.{IsReady}
-use Rattle.acquire_retire.specs.Domains.{DomainState}
-use Rattle.acquire_retire.specs.Seats.{SeatState}
+use Rattle.control_word.specs.plain_state.declared.act.EventPlace.{EventPlace}
+use Rattle.control_word.specs.plain_state.declared.act.PlainAct.{PlainAct}
+use Rattle.control_word.specs.plain_state.declared.act.PlainAct.TheVariants as plain
+use Rattle.control_word.specs.plain_state.declared.slot.SlotId.{SlotId}
+use Rattle.control_word.specs.plain_state.State.{Plain}
+use Rattle.control_word.specs.plain_protocol.Acts.{Owned}
+use Rattle.control_word.specs.plain_protocol.Owns.{OwnPart}
+use Rattle.control_word.specs.core_events.declared.act.Act.TheVariants as act
+use Rattle.control_word.specs.core_events.declared.view.CoreView.{CoreView}
+use Rattle.control_word.specs.core_events.declared.view.Move.{Move}
+use Rattle.control_word.specs.core_events.Words.{slot_in}
+use Rattle.control_word.specs.counted_handles.Handles.{Handle}
+use Rattle.control_word.specs.counted_handles.declared.refusal.LoadError.{LoadError}
+use Rattle.control_word.specs.counted_handles.declared.refusal.LoadError.TheVariants as unloaded
+use Rattle.control_word.specs.domain_rule.Views.{own_of}
+use Rattle.control_word.specs.acquire_retire.Calls.{IsReady}
+use Rattle.control_word.specs.acquire_retire.Domains.{DomainState}
+use Rattle.control_word.specs.acquire_retire.Seats.{SeatState}
 use Rattle.control_word.specs.declared.upgrading.UpgradeError.{UpgradeError}
 use Rattle.control_word.specs.declared.upgrading.UpgradeError.TheVariants as ended
 use Rattle.control_word.specs.Calls.{DropsWeak, FindsEnded, GainsStrong, GainsWeak}
 use Rattle.control_word.specs.Moves.{Becomes}
 use Rattle.control_word.specs.Resting.{IsAtRest}
-use Rattle.protected_loads.specs.Loads.{Misses}
-use Rattle.protected_loads.specs.References.{Loads}
-use Rattle.protocol_pairs.specs.Parts.{Accepts, Frees, PutsOver}
+use Rattle.atomic_weak.specs.protected_loads.Loads.{Misses}
+use Rattle.atomic_weak.specs.protected_loads.References.{Loads}
+use Rattle.part_calls.specs.protocol_pairs.Parts.{Accepts, Frees, PutsOver}
 use Rattle.atomic_weak.specs.Places.{named}
 use Rattle.part_calls.specs.Parts.{AcceptsAll, HasBeside, as_part, seen_by}
 use Rattle.part_calls.proofs.Beside.{beside_same, loads_beside, misses_beside}

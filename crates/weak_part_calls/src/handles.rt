@@ -1,16 +1,14 @@
 //! Weak references that a seat counts and gives up.
 ghost use Rattle.std.specs.Prelude.{◌≡◌, ◌<◌, ◌↔◌, IfOk, IsErr, OnErr};
-ghost use Rattle.plain_state.specs.Lists.{times};
-ghost use Rattle.core_events.specs.Steps.{HasRoom};
+ghost use Rattle.control_word.specs.plain_state.Lists.{times};
+ghost use Rattle.control_word.specs.core_events.Steps.{HasRoom};
 ghost use Rattle.control_word.specs.Calls.{DropsWeak, GainsWeak, without_weak};
 ghost use Rattle.control_word.specs.Moves.{KnowsStill};
 ghost use Rattle.control_word.specs.Resting.{IsAtRest, IsSpent};
 ghost use Rattle.part_calls.specs.Parts.{HasBeside, as_part, seen_by};
 
-use acquire_retire::{Domain, Seat};
-use counted_handles::{Spent, Strong, Weak};
-use plain_protocol::Protocol;
-use protocol_pairs::Part;
+use control_word::{Domain, Protocol, Seat, Spent, Strong, Weak};
+use part_calls::Part;
 
 /// One weak reference to the slot of a strong one that the seat owns. `Spent` exactly where the seat has used all adds
 /// of its quota, and then nothing has changed. One step, and one add.

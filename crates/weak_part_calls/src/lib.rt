@@ -23,9 +23,16 @@ mod loading;
 mod storing;
 mod upgrading;
 
-pub use control_word::UpgradeError;
-pub use counted_handles::{LoadError, SlotId, Spent, Strong, Weak, WeakPlace};
+pub use atomic_weak::collect;
+pub use control_word::{
+    Deed, Domain, EventPlace, LoadError, Outcome, Seat, SlotId, Spent, Strong, UpgradeError, Weak,
+    WeakPlace, held_as,
+};
 pub use handles::{copy_weak, drop_weak, weaken};
 pub use loading::try_load_weak;
+pub use part_calls::{
+    Deleter, MakeError, Place, copy_strong, drop_strong, look, make, reap, store, try_load,
+    try_replace,
+};
 pub use storing::store_weak;
 pub use upgrading::upgrade;

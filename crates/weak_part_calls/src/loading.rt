@@ -1,21 +1,19 @@
 //! Weak places that a seat reads with a deed of the part.
 ghost use Rattle.std.specs.Prelude.{ℕ, ◌≡◌, ◌<◌, ◌↔◌, Err, IfOk, IfSome};
-ghost use Rattle.plain_state.specs.Lists.{times};
-ghost use Rattle.core_events.specs.Steps.{HasRoom};
-ghost use Rattle.core_events.specs.Words.{slot_in};
-ghost use Rattle.counted_handles.specs.declared.refusal.LoadError.TheVariants as refused;
+ghost use Rattle.control_word.specs.plain_state.Lists.{times};
+ghost use Rattle.control_word.specs.core_events.Steps.{HasRoom};
+ghost use Rattle.control_word.specs.core_events.Words.{slot_in};
+ghost use Rattle.control_word.specs.counted_handles.declared.refusal.LoadError.TheVariants as refused;
 ghost use Rattle.control_word.specs.Moves.{KnowsStill};
 ghost use Rattle.control_word.specs.Resting.{IsAtRest, IsSpent};
-ghost use Rattle.protected_loads.specs.Loads.{Misses};
-ghost use Rattle.protected_loads.specs.References.{IsReadyToLoad, Loads};
+ghost use Rattle.atomic_weak.specs.protected_loads.Loads.{Misses};
+ghost use Rattle.atomic_weak.specs.protected_loads.References.{IsReadyToLoad, Loads};
 ghost use Rattle.atomic_weak.specs.Loading.{CanLoad};
 ghost use Rattle.atomic_weak.specs.Places.{named, weak_place};
 ghost use Rattle.part_calls.specs.Parts.{AcceptsAll, HasBeside, as_part, seen_by};
 
-use acquire_retire::{Domain, Seat};
-use counted_handles::{LoadError, Weak, WeakPlace};
-use plain_protocol::{Deed, Protocol};
-use protocol_pairs::{InPart, Part};
+use control_word::{Deed, Domain, LoadError, Protocol, Seat, Weak, WeakPlace};
+use part_calls::{InPart, Part};
 
 /// A weak reference to what the place holds. `Spent` comes first, exactly where the seat has used all adds of its
 /// quota, and then nothing has changed. `None` exactly where the first step found null, and it is the only step then.

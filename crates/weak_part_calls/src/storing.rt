@@ -1,24 +1,22 @@
 //! Weak references that go into places of the part.
 ghost use Rattle.std.specs.Prelude.{◌≡◌};
-ghost use Rattle.plain_state.specs.declared.slot.Kind.TheVariants as kind;
-ghost use Rattle.core_events.specs.declared.act.Act.TheVariants as act;
-ghost use Rattle.core_events.specs.Steps.{CanGive, HasRoom, without_given};
-ghost use Rattle.core_events.specs.Views.{IsOpen};
-ghost use Rattle.domain_rule.specs.Views.{own_of};
-ghost use Rattle.acquire_retire.specs.Calls.{IsReady};
+ghost use Rattle.control_word.specs.plain_state.declared.slot.Kind.TheVariants as kind;
+ghost use Rattle.control_word.specs.core_events.declared.act.Act.TheVariants as act;
+ghost use Rattle.control_word.specs.core_events.Steps.{CanGive, HasRoom, without_given};
+ghost use Rattle.control_word.specs.core_events.Views.{IsOpen};
+ghost use Rattle.control_word.specs.domain_rule.Views.{own_of};
+ghost use Rattle.control_word.specs.acquire_retire.Calls.{IsReady};
 ghost use Rattle.control_word.specs.Moves.{KnowsStill};
 ghost use Rattle.control_word.specs.Resting.{IsAtRest};
-ghost use Rattle.retiring_stores.specs.Exchanging.{Stores};
-ghost use Rattle.retiring_stores.specs.Scanning.{IsBelow};
+ghost use Rattle.atomic_weak.specs.retiring_stores.Exchanging.{Stores};
+ghost use Rattle.atomic_weak.specs.retiring_stores.Scanning.{IsBelow};
 ghost use Rattle.atomic_weak.specs.Places.{named, weak_place};
-ghost use Rattle.protocol_pairs.specs.Shares.{owned_of};
-ghost use Rattle.protocol_pairs.specs.Spared.{HasPlace};
+ghost use Rattle.part_calls.specs.protocol_pairs.Shares.{owned_of};
+ghost use Rattle.part_calls.specs.protocol_pairs.Spared.{HasPlace};
 ghost use Rattle.part_calls.specs.Parts.{AcceptsAll, HasBeside, as_part, seen_by, view_seen};
 
-use acquire_retire::{Domain, Seat};
-use counted_handles::{Weak, WeakPlace};
-use plain_protocol::{Deed, Protocol};
-use protocol_pairs::{InPart, Part};
+use control_word::{Deed, Domain, Protocol, Seat, Weak, WeakPlace};
+use part_calls::{InPart, Part};
 
 /// Puts the weak reference, or null, into a place of the part: one of its weak cells, or the weak field of an object of
 /// its own. What the place held is retired. One step with the deed, and a collect where one is due then.

@@ -1,20 +1,17 @@
 //! A strong reference of a weak one, with a deed of the part.
 ghost use Rattle.std.specs.Prelude.{◌≡◌, ◌<◌, ◌↔◌, Err, IfOk};
-ghost use Rattle.plain_state.specs.Lists.{times};
-ghost use Rattle.core_events.specs.declared.act.Act.TheVariants as act;
-ghost use Rattle.core_events.specs.Steps.{HasRoom};
-ghost use Rattle.acquire_retire.specs.Calls.{IsReady};
+ghost use Rattle.control_word.specs.plain_state.Lists.{times};
+ghost use Rattle.control_word.specs.core_events.declared.act.Act.TheVariants as act;
+ghost use Rattle.control_word.specs.core_events.Steps.{HasRoom};
+ghost use Rattle.control_word.specs.acquire_retire.Calls.{IsReady};
 ghost use Rattle.control_word.specs.declared.upgrading.UpgradeError.TheVariants as refused;
 ghost use Rattle.control_word.specs.Calls.{FindsEnded, GainsStrong};
 ghost use Rattle.control_word.specs.Moves.{KnowsStill};
 ghost use Rattle.control_word.specs.Resting.{IsAtRest, IsSpent};
 ghost use Rattle.part_calls.specs.Parts.{AcceptsAll, HasBeside, as_part, seen_by, view_seen};
 
-use acquire_retire::{Domain, Seat};
-use control_word::UpgradeError;
-use counted_handles::{Strong, Weak};
-use plain_protocol::{Deed, Protocol};
-use protocol_pairs::{InPart, Part};
+use control_word::{Deed, Domain, Protocol, Seat, Strong, UpgradeError, Weak};
+use part_calls::{InPart, Part};
 
 /// A strong reference to the object of a weak one that the seat owns, which stays. `Spent` comes first, exactly where
 /// the seat has used all adds of its quota, and then nothing has changed. `Ended` comes exactly where the step found

@@ -12,20 +12,15 @@
 ghost use Rattle.std.specs.Prelude.{◌≤◌, IfSome, length};
 ghost use Rattle.words_work.specs.Limits.{IsPlan, names_of, plan_of};
 
-use deleter::Deleter;
-use directory_protocol::RecordKind;
-use lane_gate::{HostFiles, Open};
-use plain_state::PayloadKind;
-use protocol_pairs::PairKind;
-use queue_protocol::NodeKind;
-use run_requests::WordsArgs;
 use std::io::Write;
 use std::process::ExitCode;
 use std::rt::Files;
 use std::sync::Wait;
 use std::thread::Threads;
 use std::{env, io};
-use words_work::words_work;
+use words_work::{
+    Deleter, HostFiles, NodeKind, Open, PairKind, PayloadKind, RecordKind, WordsArgs, words_work,
+};
 
 /// The files that the command line names, one at least, on two lanes.
 fn asked(rt: &HostRuntime) -> Option<WordsArgs>

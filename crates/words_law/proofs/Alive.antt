@@ -1,9 +1,9 @@
 -- An item that is alive is the live record of its text; so two of one text are one.
 use Rattle.std.proofs.Common.{◌≡◌, inl, ℕ, ◌<◌, List, [], ◌∷◌, ap, sym, subst, arith}
-use Rattle.plain_state.specs.declared.slot.SlotId.{SlotId}
-use Rattle.plain_state.specs.declared.slot.Stage.TheVariants.{Live}
-use Rattle.plain_state.specs.Lawful.{Lawful}
-use Rattle.plain_state.specs.State.{Plain, slot_at, stage_at}
+use Rattle.protocol_pairs.specs.plain_state.declared.slot.SlotId.{SlotId}
+use Rattle.protocol_pairs.specs.plain_state.declared.slot.Stage.TheVariants.{Live}
+use Rattle.protocol_pairs.specs.plain_state.Lawful.{Lawful}
+use Rattle.protocol_pairs.specs.plain_state.State.{Plain, slot_at, stage_at}
 use Rattle.queue_law.specs.declared.view.Item.{Item}
 use Rattle.directory_law.specs.declared.view.View.{View}
 use Rattle.directory_law.specs.Cells.{Area}

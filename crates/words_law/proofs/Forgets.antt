@@ -1,8 +1,8 @@
 -- No deed of a directory forgets what its seat saw, read or bound.
 use Rattle.std.specs.Prelude.{◌==◌, if◌then◌else◌, Option, Some, None}
 use Rattle.std.proofs.Common.{inr, ℕ, ◌+◌, ◌-◌, zero, suc, Bool, true, false, ◌∷◌}
-use Rattle.plain_state.specs.declared.act.PlainAct.{PlainAct}
-use Rattle.plain_protocol.specs.Owns.{Object, OwnPart}
+use Rattle.protocol_pairs.specs.plain_state.declared.act.PlainAct.{PlainAct}
+use Rattle.protocol_pairs.specs.plain_protocol.Owns.{Object, OwnPart}
 use Rattle.directory_law.specs.declared.view.View.{View}
 use Rattle.directory_law.specs.Cells.{Area}
 use Rattle.directory_law.specs.Making.{bind_next, bound, first_noted, link_next, make_next}

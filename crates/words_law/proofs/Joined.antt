@@ -1,8 +1,8 @@
 -- A seat leaves, and seat 0 has also what it read: seat 0 learns that first.
 use Rattle.std.proofs.Common.{◌≡◌, ℕ, ◌<◌, List, ◌++◌, length, set, refl, subst, ◌∙◌, arith}
 use Rattle.std.proofs.lemmas.List.{get_or-set_same, get_or-set_other, length-set, set-set}
-use Rattle.plain_state.specs.State.{Plain}
-use Rattle.plain_protocol.specs.Laws.{KeptByLeave}
+use Rattle.protocol_pairs.specs.plain_state.State.{Plain}
+use Rattle.protocol_pairs.specs.plain_protocol.Laws.{KeptByLeave}
 use Rattle.directory_law.specs.declared.view.View.{View}
 use Rattle.directory_law.specs.Views.{gone, joined, view_at}
 use Rattle.directory_law.specs.Cells.{Area}

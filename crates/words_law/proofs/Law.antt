@@ -5,12 +5,12 @@ use Rattle.std.proofs.lemmas.List.{get_or_past, length-map, map-set}
 use Rattle.std.proofs.lemmas.List.FromFn.{length-map-range_with_len, get_or-map-range_with_len}
 use Rattle.std.proofs.Math.ListN.{get_or-map}
 use Rattle.std.proofs.lemmas.Bool.{cases_lt}
-use Rattle.plain_state.specs.declared.act.PlainAct.{PlainAct}
-use Rattle.plain_state.specs.declared.act.PlainAct.TheVariants as act
-use Rattle.plain_state.specs.State.{Plain}
-use Rattle.plain_state.specs.Steps.{Does}
-use Rattle.plain_protocol.specs.Acts.{IsCalm, IsForeign}
-use Rattle.plain_protocol.specs.Laws.{Meets, Starts, KeptByCalm, KeptByForeign, KeptByLeave}
+use Rattle.protocol_pairs.specs.plain_state.declared.act.PlainAct.{PlainAct}
+use Rattle.protocol_pairs.specs.plain_state.declared.act.PlainAct.TheVariants as act
+use Rattle.protocol_pairs.specs.plain_state.State.{Plain}
+use Rattle.protocol_pairs.specs.plain_state.Steps.{Does}
+use Rattle.protocol_pairs.specs.plain_protocol.Acts.{IsCalm, IsForeign}
+use Rattle.protocol_pairs.specs.plain_protocol.Laws.{Meets, Starts, KeptByCalm, KeptByForeign, KeptByLeave}
 use Rattle.protocol_pairs.specs.Parts.{Both}
 use Rattle.protocol_pairs.specs.Both.{both_start, both_calm, both_foreign, both_leave}
 use Rattle.queue_law.specs.declared.view.Taken.{Taken}

@@ -2,9 +2,9 @@
 use Rattle.std.proofs.Common.{◌≡◌, ◌≢◌, ◌⊎◌, inl, inr, ⊎_elim, ℕ, ◌<◌, ◌≤◌, false, true, List, length, get_or, set, refl, ap, sym, ◌∙◌, arith}
 use Rattle.std.proofs.lemmas.Bool.{cases_eq, cases_lt, false≢true}
 use Rattle.std.proofs.lemmas.List.{get_or-set_same, get_or-set_other, get_or_past, get_or-replicate, length-replicate, length-set}
-use Rattle.plain_state.specs.declared.act.PlainAct.TheVariants as act
-use Rattle.plain_state.specs.State.{Plain, PlainSeat, empty, new_seat, seat_at}
-use Rattle.plain_state.specs.Steps.{Does}
+use Rattle.protocol_pairs.specs.plain_state.declared.act.PlainAct.TheVariants as act
+use Rattle.protocol_pairs.specs.plain_state.State.{Plain, PlainSeat, empty, new_seat, seat_at}
+use Rattle.protocol_pairs.specs.plain_state.Steps.{Does}
 use Rattle.queue_law.proofs.Left.{LeftSame, left_with, seats_of}
 use Rattle.directory_law.specs.declared.view.View.{View}
 use Rattle.directory_law.specs.Views.{gone, view_at}

@@ -1,3 +1,4 @@
+pub mod Below
 pub mod Noted
 pub mod Left
 pub mod Items

@@ -2,11 +2,11 @@
 use Rattle.std.proofs.Common.{◌≡◌, ◌≢◌, ◌⊎◌, inl, inr, ⊎_elim, ℕ, ◌<◌, List, [], ◌∷◌, ◌++◌, length, get_or, set, refl, sym, ap, subst, ◌∙◌, arith}
 use Rattle.std.proofs.lemmas.List.{length-map, map-set, set-get_or}
 use Rattle.std.proofs.Math.ListN.{get_or-map}
-use Rattle.plain_state.specs.declared.act.PlainAct.{PlainAct}
-use Rattle.plain_state.specs.declared.act.PlainAct.TheVariants as act
-use Rattle.plain_state.specs.State.{Plain}
-use Rattle.plain_protocol.specs.Acts.{Owned}
-use Rattle.plain_protocol.specs.Owns.{OwnPart, own_part}
+use Rattle.protocol_pairs.specs.plain_state.declared.act.PlainAct.{PlainAct}
+use Rattle.protocol_pairs.specs.plain_state.declared.act.PlainAct.TheVariants as act
+use Rattle.protocol_pairs.specs.plain_state.State.{Plain}
+use Rattle.protocol_pairs.specs.plain_protocol.Acts.{Owned}
+use Rattle.protocol_pairs.specs.plain_protocol.Owns.{OwnPart, own_part}
 use Rattle.protocol_pairs.specs.Parts.{HasPart, KeepsRest}
 use Rattle.protocol_pairs.specs.Sides.{left_rest, right_rest}
 use Rattle.protocol_pairs.specs.Spared.{IsSpared}

@@ -1,15 +1,15 @@
 -- A seat that popped a head may begin to read it.
 use Rattle.std.proofs.Common.{◌≡◌, ⊎_elim, ℕ, ◌+◌, ◌-◌, inl, refl, ◌<◌, false, List, [], ◌∷◌, ◌++◌, length, get_or, set, sym, ap, subst, ◌∙◌, arith}
 use Rattle.std.proofs.lemmas.List.{length-map, length-set}
-use Rattle.plain_state.specs.declared.act.EventPlace.TheVariants.{Field}
-use Rattle.plain_state.specs.declared.act.PlainAct.{PlainAct}
-use Rattle.plain_state.specs.declared.slot.SlotId.{SlotId}
-use Rattle.plain_state.specs.State.{Plain, slot_at, seat_at}
-use Rattle.plain_state.specs.Places.{HoldsStrongly}
-use Rattle.plain_state.specs.Lawful.{Lawful}
-use Rattle.plain_protocol.specs.Acts.{IsCalm}
-use Rattle.plain_protocol.specs.Laws.{Keeps}
-use Rattle.plain_protocol.specs.Owns.{OwnPart, own_part}
+use Rattle.protocol_pairs.specs.plain_state.declared.act.EventPlace.TheVariants.{Field}
+use Rattle.protocol_pairs.specs.plain_state.declared.act.PlainAct.{PlainAct}
+use Rattle.protocol_pairs.specs.plain_state.declared.slot.SlotId.{SlotId}
+use Rattle.protocol_pairs.specs.plain_state.State.{Plain, slot_at, seat_at}
+use Rattle.protocol_pairs.specs.plain_state.Places.{HoldsStrongly}
+use Rattle.protocol_pairs.specs.plain_state.Lawful.{Lawful}
+use Rattle.protocol_pairs.specs.plain_protocol.Acts.{IsCalm}
+use Rattle.protocol_pairs.specs.plain_protocol.Laws.{Keeps}
+use Rattle.protocol_pairs.specs.plain_protocol.Owns.{OwnPart, own_part}
 use Rattle.queue_law.specs.declared.view.Item.{Item}
 use Rattle.queue_law.specs.declared.view.View.{View as QueueView}
 use Rattle.queue_law.specs.Chain.{Ends}

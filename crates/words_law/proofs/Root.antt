@@ -4,9 +4,9 @@ use Rattle.std.specs.List.{flat_map}
 use Rattle.std.proofs.Common.{◌≡◌, ◌≢◌, ◌⊎◌, ℕ, suc, ◌<◌, ◌≤◌, true, List, [], ◌∷◌, ◌++◌, length, map, get_or, refl, sym, ap, subst, ◌∙◌, arith, Some, None}
 use Rattle.std.proofs.lemmas.List.{append-nil}
 use Rattle.cdrc_text.specs.Fold.{File, occurrences_in, times}
-use Rattle.plain_state.specs.State.{Plain, seat_at}
-use Rattle.plain_protocol.specs.Laws.{Meets}
-use Rattle.plain_protocol.specs.Owns.{is_alone}
+use Rattle.protocol_pairs.specs.plain_state.State.{Plain, seat_at}
+use Rattle.protocol_pairs.specs.plain_protocol.Laws.{Meets}
+use Rattle.protocol_pairs.specs.plain_protocol.Owns.{is_alone}
 use Rattle.queue_law.specs.declared.view.Item.{Item}
 use Rattle.queue_law.specs.declared.view.View.{View as QueueView}
 use Rattle.queue_law.specs.Views as queue

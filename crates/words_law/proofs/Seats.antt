@@ -2,7 +2,7 @@
 use Rattle.std.specs.Prelude.{cond, ◌==◌}
 use Rattle.std.proofs.Common.{◌≡◌, ◌≢◌, ⊎_elim, ℕ, Bool, true, false, List, [], ◌∷◌, ◌++◌, refl, sym, ap, ◌∙◌}
 use Rattle.std.proofs.lemmas.Bool.{cases_eq, eq-eqb, ne_eqb}
-use Rattle.plain_state.specs.State.{Plain}
+use Rattle.protocol_pairs.specs.plain_state.State.{Plain}
 use Rattle.queue_law.specs.declared.view.Taken.{Taken}
 use Rattle.queue_law.specs.declared.view.View.{View}
 use Rattle.queue_law.specs.Views.{view_at}

@@ -1,7 +1,7 @@
 -- The law of a queue and a directory over one domain, where the queue's items are heads that were bound to texts.
 use Rattle.std.specs.Prelude.{◌≡◌, ◌⊎◌, ℕ, ◌≤◌, true, List, length}
-use Rattle.plain_state.specs.declared.slot.SlotId.{SlotId}
-use Rattle.plain_state.specs.State.{Plain, seat_at}
+use Rattle.protocol_pairs.specs.plain_state.declared.slot.SlotId.{SlotId}
+use Rattle.protocol_pairs.specs.plain_state.State.{Plain, seat_at}
 use Rattle.protocol_pairs.specs.Parts.{Both}
 use Rattle.queue_law.specs.declared.view.Item.{Item}
 use Rattle.queue_law.specs.declared.view.View.{View as QueueView}

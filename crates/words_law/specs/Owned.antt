@@ -1,6 +1,6 @@
 -- What a queue and a directory own together, and with what their seats begin.
 use Rattle.std.specs.Prelude.{ℕ, ◌++◌}
-use Rattle.plain_protocol.specs.Acts.{Owned}
+use Rattle.protocol_pairs.specs.plain_protocol.Acts.{Owned}
 use Rattle.protocol_pairs.specs.Shares.{either_of}
 use Rattle.queue_law.specs.Views.{view_of}
 use Rattle.queue_law.specs.Views as queue

@@ -1,12 +1,12 @@
 -- The deed by which a seat begins to read what it popped.
 use Rattle.std.specs.Prelude.{ℕ, List, ◌∷◌}
-use Rattle.plain_state.specs.declared.act.EventPlace.{EventPlace}
-use Rattle.plain_state.specs.declared.act.EventPlace.TheVariants.{Field}
-use Rattle.plain_state.specs.declared.act.PlainAct.{PlainAct}
-use Rattle.plain_state.specs.declared.slot.SlotId.{SlotId}
-use Rattle.plain_state.specs.State.{Plain}
-use Rattle.plain_state.specs.Places.{HoldsStrongly}
-use Rattle.plain_protocol.specs.Owns.{OwnPart}
+use Rattle.protocol_pairs.specs.plain_state.declared.act.EventPlace.{EventPlace}
+use Rattle.protocol_pairs.specs.plain_state.declared.act.EventPlace.TheVariants.{Field}
+use Rattle.protocol_pairs.specs.plain_state.declared.act.PlainAct.{PlainAct}
+use Rattle.protocol_pairs.specs.plain_state.declared.slot.SlotId.{SlotId}
+use Rattle.protocol_pairs.specs.plain_state.State.{Plain}
+use Rattle.protocol_pairs.specs.plain_state.Places.{HoldsStrongly}
+use Rattle.protocol_pairs.specs.plain_protocol.Owns.{OwnPart}
 use Rattle.queue_law.specs.declared.view.View.{View as QueueView}
 use Rattle.queue_law.specs.Lists.{taken_items}
 use Rattle.directory_law.specs.Views.{In}

@@ -2,10 +2,10 @@
 use Rattle.std.specs.Prelude.{◌≡◌, ℕ, ◌+◌, false, List, [], ◌∷◌, map, if◌then◌else◌}
 use Rattle.std.specs.List.{flat_map}
 use Rattle.cdrc_text.specs.Fold.{times}
-use Rattle.plain_state.specs.declared.slot.SlotId.{SlotId}
-use Rattle.plain_state.specs.declared.slot.Stage.TheVariants.{Live}
-use Rattle.plain_state.specs.State.{Plain, no_payload, slot_at, stage_at}
-use Rattle.plain_state.specs.Fits.{AllFit}
+use Rattle.protocol_pairs.specs.plain_state.declared.slot.SlotId.{SlotId}
+use Rattle.protocol_pairs.specs.plain_state.declared.slot.Stage.TheVariants.{Live}
+use Rattle.protocol_pairs.specs.plain_state.State.{Plain, no_payload, slot_at, stage_at}
+use Rattle.protocol_pairs.specs.plain_state.Fits.{AllFit}
 use Rattle.protocol_pairs.specs.Shares.{FitsItsPart}
 use Rattle.queue_law.specs.declared.view.Item.{Item}
 use Rattle.queue_law.specs.declared.view.Taken.{Taken}

@@ -1,7 +1,7 @@
 //! What the deeds of a directory leave of what its seat knows.
 ghost use Rattle.std.specs.Prelude.{ℕ, Bool};
-ghost use Rattle.plain_state.specs.declared.act.PlainAct.{PlainAct};
-ghost use Rattle.plain_protocol.specs.Owns.{OwnPart};
+ghost use Rattle.protocol_pairs.specs.plain_state.declared.act.PlainAct.{PlainAct};
+ghost use Rattle.protocol_pairs.specs.plain_protocol.Owns.{OwnPart};
 ghost use Rattle.directory_law.specs.declared.view.View.{View};
 ghost use Rattle.directory_law.specs.Cells.{Area};
 ghost use Rattle.directory_law.specs.Making.{bind_next, link_next, make_next};

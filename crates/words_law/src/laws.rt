@@ -1,11 +1,11 @@
 //! What steps leave of the law.
 ghost use Rattle.std.specs.Prelude.{◌≡◌, ◌+◌, ◌++◌, ℕ, [], ◌∷◌};
-ghost use Rattle.plain_state.specs.declared.act.EventPlace.TheVariants.{Field};
-ghost use Rattle.plain_state.specs.declared.act.PlainAct.{PlainAct};
-ghost use Rattle.plain_state.specs.declared.slot.SlotId.{SlotId};
-ghost use Rattle.plain_state.specs.Places.{HoldsStrongly};
-ghost use Rattle.plain_protocol.specs.Laws.{Starts, KeptByCalm, KeptByForeign, KeptByLeave};
-ghost use Rattle.plain_protocol.specs.Owns.{OwnPart};
+ghost use Rattle.protocol_pairs.specs.plain_state.declared.act.EventPlace.TheVariants.{Field};
+ghost use Rattle.protocol_pairs.specs.plain_state.declared.act.PlainAct.{PlainAct};
+ghost use Rattle.protocol_pairs.specs.plain_state.declared.slot.SlotId.{SlotId};
+ghost use Rattle.protocol_pairs.specs.plain_state.Places.{HoldsStrongly};
+ghost use Rattle.protocol_pairs.specs.plain_protocol.Laws.{Starts, KeptByCalm, KeptByForeign, KeptByLeave};
+ghost use Rattle.protocol_pairs.specs.plain_protocol.Owns.{OwnPart};
 ghost use Rattle.protocol_pairs.specs.Parts.{KeepsRest};
 ghost use Rattle.protocol_pairs.specs.Spared.{IsSpared};
 ghost use Rattle.queue_law.specs.declared.view.Item.{Item};

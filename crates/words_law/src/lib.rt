@@ -22,6 +22,7 @@ mod laws;
 mod promises;
 mod shares;
 
+pub use cdrc_text::{OutOfMemory, Pieces, PiecesError, Tally, pieces};
 pub use deeds::directory_deeds_forget_nothing;
 pub use laws::{
     each_part_keeps_the_law, items_are_read_in_turn, others_keep_the_law, what_may_be_pushed,
@@ -31,4 +32,6 @@ pub use promises::{
     popped_items_were_pushed, slots_tell_words, the_root_knows_all,
     what_was_read_is_what_was_pushed, words_agree,
 };
+pub use protocol_pairs::{Left, PairKind, Right};
+pub use queue_law::Form;
 pub use shares::counts_add_up;

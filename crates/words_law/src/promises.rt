@@ -2,9 +2,9 @@
 ghost use Rattle.std.specs.Prelude.{◌≡◌, ◌≢◌, ◌+◌, ◌<◌, ◌≤◌, ◌++◌, ◌==◌, ℕ, List, [], map, slice_index_or, true};
 ghost use Rattle.std.specs.List.{count_by};
 ghost use Rattle.cdrc_text.specs.Fold.{File, occurrences_in, times};
-ghost use Rattle.plain_state.specs.State.{Plain};
-ghost use Rattle.plain_protocol.specs.Laws.{Meets};
-ghost use Rattle.plain_protocol.specs.Owns.{is_alone};
+ghost use Rattle.protocol_pairs.specs.plain_state.State.{Plain};
+ghost use Rattle.protocol_pairs.specs.plain_protocol.Laws.{Meets};
+ghost use Rattle.protocol_pairs.specs.plain_protocol.Owns.{is_alone};
 ghost use Rattle.queue_law.specs.declared.view.Item.{Item};
 ghost use Rattle.queue_law.specs.declared.view.Taken.{Taken};
 ghost use Rattle.queue_law.specs.declared.view.View.{View as QueueView};

@@ -7,9 +7,8 @@ ghost use Rattle.words_law.proofs.Law.{words_calm, words_foreign, words_leave, w
 ghost use Rattle.words_protocol.specs.Sides.{area_of, ends_of};
 
 use directory_protocol::{DirectoryLaw, RecordKind};
-use plain_protocol::Protocol;
-use protocol_pairs::{Pair, PairKind};
-use queue_protocol::{NodeKind, QueueLaw};
+use queue_law::Protocol;
+use queue_protocol::{NodeKind, Pair, PairKind, QueueLaw};
 
 /// The law of one queue and one directory, where each item that is pushed on the queue is a head of the directory.
 #[derive(Debug, Drop)]

@@ -17,8 +17,10 @@
 mod law;
 mod parts;
 mod reading;
-#[cfg(test)]
-mod tests;
 
+pub use directory_protocol::{DirectoryLaw, RecordKind};
 pub use law::WordsLaw;
+pub use queue_law::MOST_SLOTS;
+pub use queue_protocol::{Left, NodeKind, PairKind, QueueLaw, Right};
 pub use reading::BeginRead;
+pub use words_law::{OutOfMemory, Pieces, PiecesError, Tally, pieces};

@@ -1,8 +1,8 @@
 //! The queue and the directory as parts of the whole.
 ghost use Rattle.std.specs.Prelude.{refl};
-ghost use Rattle.protocol_pairs.specs.Spared.{IsSpared};
-ghost use Rattle.protocol_pairs.specs.Sides.{left_frees, right_frees};
-ghost use Rattle.protocol_pairs.specs.Weights.{left_fits, right_fits};
+ghost use Rattle.queue_protocol.specs.protocol_pairs.Spared.{IsSpared};
+ghost use Rattle.queue_protocol.specs.protocol_pairs.Sides.{left_frees, right_frees};
+ghost use Rattle.queue_protocol.specs.protocol_pairs.Weights.{left_fits, right_fits};
 ghost use Rattle.queue_law.specs.Owned as queue_owned;
 ghost use Rattle.queue_protocol.specs.Nodes.{IsNodePayload, node_weight};
 ghost use Rattle.directory_law.specs.Bytes.{IsPiece, piece_weight};
@@ -13,8 +13,7 @@ ghost use Rattle.words_protocol.specs.Sides.{area_of, ends_of};
 
 use crate::law::WordsLaw;
 use directory_protocol::{DirectoryLaw, HasDirectory};
-use protocol_pairs::{Left, Part, Right};
-use queue_protocol::{HasQueue, QueueLaw};
+use queue_protocol::{HasQueue, Left, Part, QueueLaw, Right};
 
 impl Part<QueueLaw, Left> for WordsLaw {
     ghost part = { λ it. it.pair.left };

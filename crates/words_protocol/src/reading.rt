@@ -4,7 +4,7 @@ ghost use Rattle.words_law.proofs.Reading.{begin_keeps};
 ghost use Rattle.words_protocol.specs.Sides.{area_of, ends_of};
 
 use crate::law::WordsLaw;
-use plain_protocol::Deed;
+use queue_law::Deed;
 
 /// A look or a check of field 1 of a slot that the seat holds strongly and has popped, in the life in which it holds
 /// it: its payload is read. It is the live record of a text that begins with this payload; and the deeds of the

@@ -4,13 +4,13 @@ use Rattle.std.proofs.Common.{◌≡◌, ◌≢◌, ◌⊎◌, ⊎_elim, ℕ, ze
 use Rattle.std.proofs.lemmas.Bool.{cases_eq, cases_lt}
 use Rattle.std.proofs.lemmas.List.Sums.{sum_by-cons}
 use Rattle.std.proofs.lemmas.List.{get_or_past}
-use Rattle.plain_state.specs.declared.slot.PlainSlot.{PlainSlot}
-use Rattle.plain_state.specs.declared.slot.SlotId.{SlotId}
-use Rattle.plain_state.specs.Lists.{times}
-use Rattle.plain_state.specs.References.{held_in, over_slots}
-use Rattle.plain_state.specs.State.{new_slot}
-use Rattle.plain_state.proofs.Kit.{held_other, held_same, times_cons, times_none}
-use Rattle.heap_audit.specs.Heaps.{slot}
+use Rattle.plain_audit.specs.plain_state.declared.slot.PlainSlot.{PlainSlot}
+use Rattle.plain_audit.specs.plain_state.declared.slot.SlotId.{SlotId}
+use Rattle.plain_audit.specs.plain_state.Lists.{times}
+use Rattle.plain_audit.specs.plain_state.References.{held_in, over_slots}
+use Rattle.plain_audit.specs.plain_state.State.{new_slot}
+use Rattle.plain_audit.proofs.Below.plain_state.Kit.{held_other, held_same, times_cons, times_none}
+use Rattle.plain_audit.specs.heap_audit.Heaps.{slot}
 use Rattle.words_law.specs.Fold.{added}
 
 added_same : (f g : ℕ → ℕ) (n : ℕ) → ((k : ℕ) → k < n → f k ≡ g k) → added f n ≡ added g n

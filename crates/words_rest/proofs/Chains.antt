@@ -2,21 +2,21 @@
 use Rattle.std.specs.Prelude.{sum_by, Option, Some, None}
 use Rattle.std.proofs.Common.{◌≡◌, ◌≢◌, ⊎_elim, ℕ, List, [], ◌∷◌, refl, ap, sym, subst, ◌∙◌, arith}
 use Rattle.std.proofs.lemmas.List.Sums.{sum_by-cons}
-use Rattle.plain_state.specs.declared.slot.SlotId.{SlotId}
-use Rattle.plain_state.specs.declared.slot.Stage.{Stage}
-use Rattle.plain_state.specs.declared.slot.Stage.TheVariants.{Live}
-use Rattle.plain_state.specs.Lawful.{Lawful}
-use Rattle.plain_state.specs.Lists.{times}
-use Rattle.plain_state.specs.References.{held_in}
-use Rattle.plain_state.specs.State.{Plain, slot_at, stage_at}
-use Rattle.plain_state.proofs.Kit.{cases_slot, held_other, held_same, slot_is, times_cons, times_none}
-use Rattle.directory_law.specs.declared.view.View.{View as DirectoryView}
-use Rattle.directory_law.specs.Cells.{Area}
-use Rattle.directory_law.specs.Chains.{Along, OwnSlot}
-use Rattle.directory_law.specs.Law.{DirectoryLaw}
-use Rattle.directory_law.specs.Payloads.{IsPart, Text}
-use Rattle.directory_law.proofs.Chains.{pointed_own, second_live}
-use Rattle.directory_law.proofs.Kit.{none_some, some_same}
+use Rattle.plain_audit.specs.plain_state.declared.slot.SlotId.{SlotId}
+use Rattle.plain_audit.specs.plain_state.declared.slot.Stage.{Stage}
+use Rattle.plain_audit.specs.plain_state.declared.slot.Stage.TheVariants.{Live}
+use Rattle.plain_audit.specs.plain_state.Lawful.{Lawful}
+use Rattle.plain_audit.specs.plain_state.Lists.{times}
+use Rattle.plain_audit.specs.plain_state.References.{held_in}
+use Rattle.plain_audit.specs.plain_state.State.{Plain, slot_at, stage_at}
+use Rattle.plain_audit.proofs.Below.plain_state.Kit.{cases_slot, held_other, held_same, slot_is, times_cons, times_none}
+use Rattle.words_law.specs.directory_law.declared.view.View.{View as DirectoryView}
+use Rattle.words_law.specs.directory_law.Cells.{Area}
+use Rattle.words_law.specs.directory_law.Chains.{Along, OwnSlot}
+use Rattle.words_law.specs.directory_law.Law.{DirectoryLaw}
+use Rattle.words_law.specs.directory_law.Payloads.{IsPart, Text}
+use Rattle.words_law.proofs.Below.directory_law.Chains.{pointed_own, second_live}
+use Rattle.words_law.proofs.Below.directory_law.Kit.{none_some, some_same}
 use Rattle.plain_audit.specs.Audits.{if_live}
 
 -- from a place on, along field 1, as many slots as a text has

@@ -7,10 +7,10 @@ use Rattle.std.proofs.lemmas.Bool.{cases_eq, ne_eqb}
 use Rattle.std.proofs.lemmas.List.{length-map}
 use Rattle.std.proofs.lemmas.Map.Keys.{IsDistinct-cons}
 use Rattle.std.proofs.lemmas.Map.Steps.{length-le_from_distinct_below}
-use Rattle.plain_state.specs.declared.slot.SlotId.{SlotId}
-use Rattle.plain_state.proofs.Kit.{slot_is}
-use Rattle.directory_law.specs.Views.{Each}
-use Rattle.heap_audit.specs.Paths.{Path}
+use Rattle.plain_audit.specs.plain_state.declared.slot.SlotId.{SlotId}
+use Rattle.plain_audit.proofs.Below.plain_state.Kit.{slot_is}
+use Rattle.words_law.specs.directory_law.Views.{Each}
+use Rattle.plain_audit.specs.heap_audit.Paths.{Path}
 
 abbrev numbers : List SlotId → List ℕ
 numbers xs = map (λ (x : SlotId). x.0) xs

@@ -1,14 +1,14 @@
 -- The payloads of what lives: sixteen words, the first of which isn't 0, but for nodes.
 use Rattle.std.proofs.Common.{◌≡◌, inl, ⊎_elim, ℕ, List, [], ◌∷◌, length, sym, subst, arith}
-use Rattle.plain_state.specs.declared.slot.SlotId.{SlotId}
-use Rattle.plain_state.specs.declared.slot.Stage.TheVariants.{Live}
-use Rattle.plain_state.specs.Lawful.{Lawful}
-use Rattle.plain_state.specs.State.{Plain, slot_at, stage_at}
-use Rattle.directory_law.specs.Bytes.{IsPiece}
-use Rattle.directory_law.specs.Chains.{Along}
-use Rattle.directory_law.specs.Payloads.{IsOwn, IsPart, Text}
-use Rattle.directory_law.specs.Views.{Each}
-use Rattle.directory_law.proofs.Chains.{part_own, second_live}
+use Rattle.plain_audit.specs.plain_state.declared.slot.SlotId.{SlotId}
+use Rattle.plain_audit.specs.plain_state.declared.slot.Stage.TheVariants.{Live}
+use Rattle.plain_audit.specs.plain_state.Lawful.{Lawful}
+use Rattle.plain_audit.specs.plain_state.State.{Plain, slot_at, stage_at}
+use Rattle.words_law.specs.directory_law.Bytes.{IsPiece}
+use Rattle.words_law.specs.directory_law.Chains.{Along}
+use Rattle.words_law.specs.directory_law.Payloads.{IsOwn, IsPart, Text}
+use Rattle.words_law.specs.directory_law.Views.{Each}
+use Rattle.words_law.proofs.Below.directory_law.Chains.{part_own, second_live}
 use Rattle.words_law.specs.Texts.{AllPieces}
 use Rattle.words_rest.proofs.Lengths.{IsFull}
 

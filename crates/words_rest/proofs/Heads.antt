@@ -1,24 +1,24 @@
 -- What lives is a node or a slot of the directory; what seat 0 owns is a head, the live record of its text.
 use Rattle.std.proofs.Common.{◌≡◌, ◌⊎◌, inl, inr, ⊎_elim, ℕ, ◌<◌, List, [], get_or, ap, arith}
 use Rattle.std.proofs.lemmas.Bool.{cases_eq}
-use Rattle.plain_state.specs.declared.slot.SlotId.{SlotId}
-use Rattle.plain_state.specs.declared.slot.Stage.TheVariants.{Live}
-use Rattle.plain_state.specs.Lawful.{Lawful}
-use Rattle.plain_state.specs.Lists.{times}
-use Rattle.plain_state.specs.References.{strong_refs}
-use Rattle.plain_state.specs.State.{Plain, seat_at, slot_at, stage_at}
-use Rattle.queue_law.specs.declared.view.Item.{Item}
-use Rattle.directory_law.specs.declared.view.View.{View as DirectoryView}
-use Rattle.directory_law.specs.Bytes.{text_bytes}
-use Rattle.directory_law.specs.Cells.{Area}
-use Rattle.directory_law.specs.Chains.{OwnSlot, Reads}
-use Rattle.directory_law.specs.Law.{DirectoryLaw, IsBound}
-use Rattle.directory_law.specs.Payloads.{IsHead, IsText}
-use Rattle.directory_law.specs.Views.{keeps}
-use Rattle.directory_law.proofs.Bytes.{piece_own}
-use Rattle.directory_law.proofs.Chains.{live_own}
-use Rattle.directory_law.proofs.Gives.{kept_reads, kept_stands, set_cell}
-use Rattle.directory_law.proofs.Kept.{kept_counts}
+use Rattle.plain_audit.specs.plain_state.declared.slot.SlotId.{SlotId}
+use Rattle.plain_audit.specs.plain_state.declared.slot.Stage.TheVariants.{Live}
+use Rattle.plain_audit.specs.plain_state.Lawful.{Lawful}
+use Rattle.plain_audit.specs.plain_state.Lists.{times}
+use Rattle.plain_audit.specs.plain_state.References.{strong_refs}
+use Rattle.plain_audit.specs.plain_state.State.{Plain, seat_at, slot_at, stage_at}
+use Rattle.words_law.specs.queue_law.declared.view.Item.{Item}
+use Rattle.words_law.specs.directory_law.declared.view.View.{View as DirectoryView}
+use Rattle.words_law.specs.directory_law.Bytes.{text_bytes}
+use Rattle.words_law.specs.directory_law.Cells.{Area}
+use Rattle.words_law.specs.directory_law.Chains.{OwnSlot, Reads}
+use Rattle.words_law.specs.directory_law.Law.{DirectoryLaw, IsBound}
+use Rattle.words_law.specs.directory_law.Payloads.{IsHead, IsText}
+use Rattle.words_law.specs.directory_law.Views.{keeps}
+use Rattle.words_law.proofs.Below.directory_law.Bytes.{piece_own}
+use Rattle.words_law.proofs.Below.directory_law.Chains.{live_own}
+use Rattle.words_law.proofs.Below.directory_law.Gives.{kept_reads, kept_stands, set_cell}
+use Rattle.words_law.proofs.Below.directory_law.Kept.{kept_counts}
 use Rattle.words_law.specs.Law.{head_of}
 use Rattle.words_law.specs.Texts.{AllPieces, HasOneText, IsAlive, all_kept, text_in, word_of_item}
 use Rattle.words_law.specs.Views.{View, directories}

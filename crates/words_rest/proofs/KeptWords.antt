@@ -1,21 +1,21 @@
 -- The words of the references that seat 0 keeps: each slot has one, and as many files have it as there are references.
 use Rattle.std.specs.Prelude.{◌↔◌, slice_index_or}
 use Rattle.std.proofs.Common.{◌≡◌, ℕ, ◌<◌, ◌≤◌, List, [], ◌∷◌, refl, ap, sym, subst, ◌∙◌, arith}
-use Rattle.plain_state.specs.declared.slot.SlotId.{SlotId}
-use Rattle.plain_state.specs.Lawful.{Lawful}
-use Rattle.plain_state.specs.Lists.{times}
-use Rattle.plain_state.specs.References.{over_seats, strong_refs}
-use Rattle.plain_state.specs.State.{Plain, PlainSeat, seat_at, slot_at, new_seat}
-use Rattle.plain_state.proofs.Kit.{seats_at, slot_is, times_none}
-use Rattle.queue_law.specs.declared.view.Item.{Item}
-use Rattle.queue_law.specs.Chain.{Ends}
-use Rattle.directory_law.specs.declared.view.View.{View as DirectoryView}
-use Rattle.directory_law.specs.Bytes.{AreBytes, text_bytes}
-use Rattle.directory_law.specs.Cells.{Area}
-use Rattle.directory_law.specs.Law.{DirectoryLaw}
-use Rattle.directory_law.specs.Payloads.{Text}
-use Rattle.directory_law.proofs.Bytes.{text_tells}
-use Rattle.cdrc_text.specs.Fold.{File, holders_in}
+use Rattle.plain_audit.specs.plain_state.declared.slot.SlotId.{SlotId}
+use Rattle.plain_audit.specs.plain_state.Lawful.{Lawful}
+use Rattle.plain_audit.specs.plain_state.Lists.{times}
+use Rattle.plain_audit.specs.plain_state.References.{over_seats, strong_refs}
+use Rattle.plain_audit.specs.plain_state.State.{Plain, PlainSeat, seat_at, slot_at, new_seat}
+use Rattle.plain_audit.proofs.Below.plain_state.Kit.{seats_at, slot_is, times_none}
+use Rattle.words_law.specs.queue_law.declared.view.Item.{Item}
+use Rattle.words_law.specs.queue_law.Chain.{Ends}
+use Rattle.words_law.specs.directory_law.declared.view.View.{View as DirectoryView}
+use Rattle.words_law.specs.directory_law.Bytes.{AreBytes, text_bytes}
+use Rattle.words_law.specs.directory_law.Cells.{Area}
+use Rattle.words_law.specs.directory_law.Law.{DirectoryLaw}
+use Rattle.words_law.specs.directory_law.Payloads.{Text}
+use Rattle.words_law.proofs.Below.directory_law.Bytes.{text_tells}
+use Rattle.words_law.specs.cdrc_text.Fold.{File, holders_in}
 use Rattle.words_law.specs.Known.{KnowsText}
 use Rattle.words_law.specs.Law.{HasText}
 use Rattle.words_law.specs.Texts.{HasOneText, IsAlive, all_kept, text_in}

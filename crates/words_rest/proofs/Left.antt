@@ -1,15 +1,15 @@
 -- What refers to a slot in a state at rest: references that seat 0 owns, and strong fields of slots that live.
 use Rattle.std.proofs.Common.{◌≡◌, ◌≢◌, ◌⊎◌, inl, inr, ⊎_elim, ◌+◌, ◌<◌, List, refl, ap, ◌∙◌, arith, Some}
-use Rattle.plain_state.specs.declared.slot.Kind.{Kind}
-use Rattle.plain_state.specs.declared.slot.Kind.TheVariants.{Strong}
-use Rattle.plain_state.specs.declared.slot.SlotId.{SlotId}
-use Rattle.plain_state.specs.declared.slot.Stage.{Stage}
-use Rattle.plain_state.specs.declared.slot.Stage.TheVariants.{Free, Blank, Live, Ended, Husk}
-use Rattle.plain_state.specs.Lawful.{Lawful}
-use Rattle.plain_state.specs.Lists.{cell_times, entry_times, times}
-use Rattle.plain_state.specs.References.{deferrals, dying_times, held_in, over_seats, over_slots, strong_fields, strong_refs}
-use Rattle.plain_state.specs.State.{Plain, seat_at, slot_at, stage_at}
-use Rattle.plain_state.proofs.Kit.{entry_none, held_none, none_or_some, times_none}
+use Rattle.plain_audit.specs.plain_state.declared.slot.Kind.{Kind}
+use Rattle.plain_audit.specs.plain_state.declared.slot.Kind.TheVariants.{Strong}
+use Rattle.plain_audit.specs.plain_state.declared.slot.SlotId.{SlotId}
+use Rattle.plain_audit.specs.plain_state.declared.slot.Stage.{Stage}
+use Rattle.plain_audit.specs.plain_state.declared.slot.Stage.TheVariants.{Free, Blank, Live, Ended, Husk}
+use Rattle.plain_audit.specs.plain_state.Lawful.{Lawful}
+use Rattle.plain_audit.specs.plain_state.Lists.{cell_times, entry_times, times}
+use Rattle.plain_audit.specs.plain_state.References.{deferrals, dying_times, held_in, over_seats, over_slots, strong_fields, strong_refs}
+use Rattle.plain_audit.specs.plain_state.State.{Plain, seat_at, slot_at, stage_at}
+use Rattle.plain_audit.proofs.Below.plain_state.Kit.{entry_none, held_none, none_or_some, times_none}
 use Rattle.words_law.specs.Views.{View}
 use Rattle.words_rest.specs.Rest.{IsLeft}
 use Rattle.words_rest.proofs.Sums.{held_some, null_cells, seats_none, seats_root, some_slot}

@@ -5,12 +5,12 @@ use Rattle.std.proofs.Common.{◌≡◌, ⊎_elim, ℕ, zero, suc, ◌+◌, ◌-
 use Rattle.std.proofs.lemmas.Bool.{cases_lt}
 use Rattle.std.proofs.lemmas.Bool.Decides.{nat_tests}
 use Rattle.std.proofs.lemmas.List.Sums.{sum_by-cons}
-use Rattle.protocol_pairs.specs.Shares.{weight_in_part}
-use Rattle.protocol_pairs.specs.Weights.{right_weight}
-use Rattle.directory_law.specs.Bytes.{bytes_of_words, low_bytes, part_bytes, piece_bytes, piece_weight, text_bytes}
-use Rattle.directory_law.specs.Payloads.{IsOwn, IsRest, IsText, Text, size}
-use Rattle.directory_law.specs.Views.{Each}
-use Rattle.cdrc_text.specs.Text.{slots_of_word}
+use Rattle.words_law.specs.protocol_pairs.Shares.{weight_in_part}
+use Rattle.words_law.specs.protocol_pairs.Weights.{right_weight}
+use Rattle.words_law.specs.directory_law.Bytes.{bytes_of_words, low_bytes, part_bytes, piece_bytes, piece_weight, text_bytes}
+use Rattle.words_law.specs.directory_law.Payloads.{IsOwn, IsRest, IsText, Text, size}
+use Rattle.words_law.specs.directory_law.Views.{Each}
+use Rattle.words_law.specs.cdrc_text.Text.{slots_of_word}
 
 low_length : (n word : ℕ) → length (low_bytes n word) ≡ n
 low_length zero word = refl

@@ -1,26 +1,26 @@
 -- Where no node is left, what lives is owned, or a slot of the directory that lives leads to it: so it is reached, and
 -- there is nothing of it where nothing is owned.
 use Rattle.std.proofs.Common.{◌≡◌, ◌≢◌, ◌⊎◌, inl, inr, ⊎_elim, ℕ, suc, ◌<◌, List, [], ◌∷◌, length, refl, ap, sym, ◌∙◌, arith, Some}
-use Rattle.plain_state.specs.declared.slot.SlotId.{SlotId}
-use Rattle.plain_state.specs.declared.slot.Stage.TheVariants.{Live}
-use Rattle.plain_state.specs.Lawful.{Lawful}
-use Rattle.plain_state.specs.Lists.{Entry, times}
-use Rattle.plain_state.specs.References.{held_in, over_slots, strong_fields, strong_refs}
-use Rattle.plain_state.specs.State.{Plain, seat_at, slot_at, stage_at}
-use Rattle.plain_state.proofs.Kit.{held_self, none_by, none_or_some}
-use Rattle.directory_law.specs.Cells.{Area}
-use Rattle.directory_law.specs.Chains.{OwnSlot}
-use Rattle.directory_law.specs.Law.{DirectoryLaw}
-use Rattle.directory_law.specs.Payloads.{IsHead, IsPart}
-use Rattle.directory_law.specs.Promises.{Reaches}
-use Rattle.directory_law.proofs.Chains.{pointed_part}
-use Rattle.directory_law.proofs.Gives.{parts_stand_once}
-use Rattle.directory_law.proofs.Kit.{none_some}
-use Rattle.heap_audit.specs.Heaps.{slot}
-use Rattle.heap_audit.specs.Paths.{Path}
-use Rattle.heap_audit.specs.Reached.{HowMany}
-use Rattle.heap_audit.proofs.Going.{leads_on}
-use Rattle.heap_audit.proofs.Leasts.{many_none}
+use Rattle.plain_audit.specs.plain_state.declared.slot.SlotId.{SlotId}
+use Rattle.plain_audit.specs.plain_state.declared.slot.Stage.TheVariants.{Live}
+use Rattle.plain_audit.specs.plain_state.Lawful.{Lawful}
+use Rattle.plain_audit.specs.plain_state.Lists.{Entry, times}
+use Rattle.plain_audit.specs.plain_state.References.{held_in, over_slots, strong_fields, strong_refs}
+use Rattle.plain_audit.specs.plain_state.State.{Plain, seat_at, slot_at, stage_at}
+use Rattle.plain_audit.proofs.Below.plain_state.Kit.{held_self, none_by, none_or_some}
+use Rattle.words_law.specs.directory_law.Cells.{Area}
+use Rattle.words_law.specs.directory_law.Chains.{OwnSlot}
+use Rattle.words_law.specs.directory_law.Law.{DirectoryLaw}
+use Rattle.words_law.specs.directory_law.Payloads.{IsHead, IsPart}
+use Rattle.words_law.specs.directory_law.Promises.{Reaches}
+use Rattle.words_law.proofs.Below.directory_law.Chains.{pointed_part}
+use Rattle.words_law.proofs.Below.directory_law.Gives.{parts_stand_once}
+use Rattle.words_law.proofs.Below.directory_law.Kit.{none_some}
+use Rattle.plain_audit.specs.heap_audit.Heaps.{slot}
+use Rattle.plain_audit.specs.heap_audit.Paths.{Path}
+use Rattle.plain_audit.specs.heap_audit.Reached.{HowMany}
+use Rattle.plain_audit.proofs.Below.heap_audit.Going.{leads_on}
+use Rattle.plain_audit.proofs.Below.heap_audit.Leasts.{many_none}
 use Rattle.plain_audit.specs.Audits.{deferred_entries}
 use Rattle.plain_audit.specs.Reached.{HasField, IsReached, IsRoot, IsUnreached}
 use Rattle.words_law.specs.Texts.{AllPieces}

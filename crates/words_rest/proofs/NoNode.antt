@@ -2,40 +2,40 @@
 use Rattle.std.proofs.Common.{◌≡◌, ◌⊎◌, inr, ⊎_elim, ℕ, zero, suc, ◌<◌, ◌≤◌, List, [], ◌∷◌, length, refl, ap, sym, subst, ◌∙◌, arith, Some, None}
 use Rattle.std.proofs.lemmas.Bool.{cases_eq, cases_lt}
 use Rattle.std.proofs.lemmas.List.{get_or_past}
-use Rattle.plain_state.specs.declared.act.EventPlace.TheVariants.{Cell}
-use Rattle.plain_state.specs.declared.act.PlainAct.{PlainAct}
-use Rattle.plain_state.specs.declared.slot.Kind.TheVariants.{Strong}
-use Rattle.plain_state.specs.declared.slot.PlainSlot.{PlainSlot}
-use Rattle.plain_state.specs.declared.slot.SlotId.{SlotId}
-use Rattle.plain_state.specs.declared.slot.Stage.TheVariants.{Free, Live}
-use Rattle.plain_state.specs.Lawful.{Lawful}
-use Rattle.plain_state.specs.Lists.{times}
-use Rattle.plain_state.specs.Places.{content}
-use Rattle.plain_state.specs.References.{held_in, strong_fields}
-use Rattle.plain_state.specs.State.{Plain, new_slot, no_payload, seat_at, slot_at, stage_at}
-use Rattle.plain_state.specs.Steps.{Does, word_of}
-use Rattle.plain_state.proofs.Kit.{none_or_some}
-use Rattle.plain_protocol.specs.Acts.{IsCalm}
-use Rattle.plain_protocol.specs.Laws.{Meets}
-use Rattle.plain_protocol.proofs.Calm.{calm_leaves}
-use Rattle.queue_law.specs.declared.view.View.{View as QueueView}
-use Rattle.queue_law.specs.Views as queue
-use Rattle.queue_law.specs.Chain.{Ends}
-use Rattle.queue_law.specs.Law.{QueueLaw}
-use Rattle.queue_law.specs.Promises.{Far}
-use Rattle.queue_law.specs.Words.{code}
-use Rattle.queue_law.proofs.Cycles.{law_no_cycle}
-use Rattle.queue_law.proofs.Kit.{word_none}
-use Rattle.directory_law.specs.Cells.{Area}
-use Rattle.directory_law.specs.Chains.{OwnSlot}
-use Rattle.directory_law.specs.Payloads.{IsOwn}
-use Rattle.directory_law.proofs.Bytes.{zeros_not_own}
-use Rattle.directory_law.proofs.Chains.{pointed_own}
-use Rattle.directory_law.proofs.Kit.{none_some}
-use Rattle.heap_audit.specs.declared.finding.Audit.{Audit}
-use Rattle.heap_audit.specs.Heaps.{slot}
-use Rattle.heap_audit.specs.Paths.{Path}
-use Rattle.heap_audit.specs.Reached.{HowMany}
+use Rattle.plain_audit.specs.plain_state.declared.act.EventPlace.TheVariants.{Cell}
+use Rattle.plain_audit.specs.plain_state.declared.act.PlainAct.{PlainAct}
+use Rattle.plain_audit.specs.plain_state.declared.slot.Kind.TheVariants.{Strong}
+use Rattle.plain_audit.specs.plain_state.declared.slot.PlainSlot.{PlainSlot}
+use Rattle.plain_audit.specs.plain_state.declared.slot.SlotId.{SlotId}
+use Rattle.plain_audit.specs.plain_state.declared.slot.Stage.TheVariants.{Free, Live}
+use Rattle.plain_audit.specs.plain_state.Lawful.{Lawful}
+use Rattle.plain_audit.specs.plain_state.Lists.{times}
+use Rattle.plain_audit.specs.plain_state.Places.{content}
+use Rattle.plain_audit.specs.plain_state.References.{held_in, strong_fields}
+use Rattle.plain_audit.specs.plain_state.State.{Plain, new_slot, no_payload, seat_at, slot_at, stage_at}
+use Rattle.plain_audit.specs.plain_state.Steps.{Does, word_of}
+use Rattle.plain_audit.proofs.Below.plain_state.Kit.{none_or_some}
+use Rattle.plain_audit.specs.plain_protocol.Acts.{IsCalm}
+use Rattle.plain_audit.specs.plain_protocol.Laws.{Meets}
+use Rattle.plain_audit.proofs.Below.plain_protocol.Calm.{calm_leaves}
+use Rattle.words_law.specs.queue_law.declared.view.View.{View as QueueView}
+use Rattle.words_law.specs.queue_law.Views as queue
+use Rattle.words_law.specs.queue_law.Chain.{Ends}
+use Rattle.words_law.specs.queue_law.Law.{QueueLaw}
+use Rattle.words_law.specs.queue_law.Promises.{Far}
+use Rattle.words_law.specs.queue_law.Words.{code}
+use Rattle.words_law.proofs.Below.queue_law.Cycles.{law_no_cycle}
+use Rattle.words_law.proofs.Below.queue_law.Kit.{word_none}
+use Rattle.words_law.specs.directory_law.Cells.{Area}
+use Rattle.words_law.specs.directory_law.Chains.{OwnSlot}
+use Rattle.words_law.specs.directory_law.Payloads.{IsOwn}
+use Rattle.words_law.proofs.Below.directory_law.Bytes.{zeros_not_own}
+use Rattle.words_law.proofs.Below.directory_law.Chains.{pointed_own}
+use Rattle.words_law.proofs.Below.directory_law.Kit.{none_some}
+use Rattle.plain_audit.specs.heap_audit.declared.finding.Audit.{Audit}
+use Rattle.plain_audit.specs.heap_audit.Heaps.{slot}
+use Rattle.plain_audit.specs.heap_audit.Paths.{Path}
+use Rattle.plain_audit.specs.heap_audit.Reached.{HowMany}
 use Rattle.plain_audit.specs.Audits.{IsAudit}
 use Rattle.plain_audit.specs.Reached.{HasField, IsReached, IsUnreached}
 use Rattle.words_law.specs.Law.{WordsLaw}

@@ -11,24 +11,24 @@ use Rattle.std.proofs.lemmas.Bool.Decides.{nat_tests}
 use Rattle.std.proofs.lemmas.Bool.{cases_lt}
 use Rattle.std.proofs.lemmas.List.Elements.{All-cons, All-head, All-tail}
 use Rattle.std.proofs.lemmas.List.Sums.{sum_by-cons}
-use Rattle.plain_state.specs.declared.slot.SlotId.{SlotId}
-use Rattle.plain_state.specs.Lists.{times}
-use Rattle.plain_state.specs.Lawful.{Lawful}
-use Rattle.plain_state.specs.State.{Plain}
-use Rattle.plain_state.proofs.Kit.{cases_slot, held_once, held_other, held_same, times_cons, times_none}
-use Rattle.protocol_pairs.specs.Shares.{weight_in_part}
-use Rattle.queue_law.specs.Chain.{Ends}
-use Rattle.directory_law.specs.declared.view.View.{View as DirectoryView}
-use Rattle.directory_law.specs.Bytes.{AreBytes, piece_weight}
-use Rattle.directory_law.specs.Cells.{Area}
-use Rattle.directory_law.specs.Law.{DirectoryLaw}
-use Rattle.cdrc_text.specs.declared.row.Row.{Row}
-use Rattle.cdrc_text.specs.Fold.{File, IsInByteOrder, holders_in, times as word_times}
-use Rattle.cdrc_text.specs.Report.{report_of}
-use Rattle.cdrc_text.specs.Text.{IsReport, IsRowOf, totals_in, word_of}
-use Rattle.cdrc_text.proofs.Reported.{text-report}
-use Rattle.cdrc_text.proofs.Unique.{Contains-first, Contains-later, below-later, cases-cons, not-both}
-use Rattle.heap_audit.specs.declared.finding.Audit.{Audit}
+use Rattle.plain_audit.specs.plain_state.declared.slot.SlotId.{SlotId}
+use Rattle.plain_audit.specs.plain_state.Lists.{times}
+use Rattle.plain_audit.specs.plain_state.Lawful.{Lawful}
+use Rattle.plain_audit.specs.plain_state.State.{Plain}
+use Rattle.plain_audit.proofs.Below.plain_state.Kit.{cases_slot, held_once, held_other, held_same, times_cons, times_none}
+use Rattle.words_law.specs.protocol_pairs.Shares.{weight_in_part}
+use Rattle.words_law.specs.queue_law.Chain.{Ends}
+use Rattle.words_law.specs.directory_law.declared.view.View.{View as DirectoryView}
+use Rattle.words_law.specs.directory_law.Bytes.{AreBytes, piece_weight}
+use Rattle.words_law.specs.directory_law.Cells.{Area}
+use Rattle.words_law.specs.directory_law.Law.{DirectoryLaw}
+use Rattle.words_law.specs.cdrc_text.declared.row.Row.{Row}
+use Rattle.words_law.specs.cdrc_text.Fold.{File, IsInByteOrder, holders_in, times as word_times}
+use Rattle.words_law.specs.cdrc_text.Report.{report_of}
+use Rattle.words_law.specs.cdrc_text.Text.{IsReport, IsRowOf, totals_in, word_of}
+use Rattle.words_law.proofs.Below.cdrc_text.Reported.{text-report}
+use Rattle.words_law.proofs.Below.cdrc_text.Unique.{Contains-first, Contains-later, below-later, cases-cons, not-both}
+use Rattle.plain_audit.specs.heap_audit.declared.finding.Audit.{Audit}
 use Rattle.plain_audit.specs.Audits.{IsAudit}
 use Rattle.words_law.specs.Views.{View, directories, gone}
 use Rattle.words_rest.specs.Kept.{KeepsRecordsOf}

@@ -1,16 +1,16 @@
 -- A state with one node, whose field 1 holds the node itself: it is as the law asks, and it rests.
 use Rattle.std.proofs.Common.{◌≡◌, ◌≢◌, ℕ, zero, suc, ◌<◌, true, false, [], ◌∷◌, refl, ap, sym, subst, arith, Some, None}
-use Rattle.plain_state.specs.declared.slot.Kind.{Kind}
-use Rattle.plain_state.specs.declared.slot.Kind.TheVariants.{Strong, Weak}
-use Rattle.plain_state.specs.declared.slot.PlainSlot.{PlainSlot}
-use Rattle.plain_state.specs.declared.slot.SlotId.{SlotId}
-use Rattle.plain_state.specs.declared.slot.Stage.TheVariants.{Free, Live, Ended}
-use Rattle.plain_state.specs.Lawful.{Lawful}
-use Rattle.plain_state.specs.Lists.{entry_times, times}
-use Rattle.plain_state.specs.References.{dying_times, held_in, over_seats, over_slots, own_reference, snapshot_times, strong_fields, strong_refs, weak_fields, weak_refs}
-use Rattle.plain_state.specs.State.{Plain, PlainSeat, new_seat, new_slot, no_payload, seat_at, slot_at, stage_at}
-use Rattle.plain_state.proofs.Kit.{cells_none, entry_none, held_is, held_none, held_self, times_none}
-use Rattle.heap_audit.specs.Heaps.{slot}
+use Rattle.plain_audit.specs.plain_state.declared.slot.Kind.{Kind}
+use Rattle.plain_audit.specs.plain_state.declared.slot.Kind.TheVariants.{Strong, Weak}
+use Rattle.plain_audit.specs.plain_state.declared.slot.PlainSlot.{PlainSlot}
+use Rattle.plain_audit.specs.plain_state.declared.slot.SlotId.{SlotId}
+use Rattle.plain_audit.specs.plain_state.declared.slot.Stage.TheVariants.{Free, Live, Ended}
+use Rattle.plain_audit.specs.plain_state.Lawful.{Lawful}
+use Rattle.plain_audit.specs.plain_state.Lists.{entry_times, times}
+use Rattle.plain_audit.specs.plain_state.References.{dying_times, held_in, over_seats, over_slots, own_reference, snapshot_times, strong_fields, strong_refs, weak_fields, weak_refs}
+use Rattle.plain_audit.specs.plain_state.State.{Plain, PlainSeat, new_seat, new_slot, no_payload, seat_at, slot_at, stage_at}
+use Rattle.plain_audit.proofs.Below.plain_state.Kit.{cells_none, entry_none, held_is, held_none, held_self, times_none}
+use Rattle.plain_audit.specs.heap_audit.Heaps.{slot}
 use Rattle.words_rest.proofs.Sums.{seats_none}
 
 abbrev loop : PlainSlot

@@ -1,37 +1,37 @@
 -- The law holds of the state with one node whose field 1 holds the node itself, where seat 0 has shut the queue.
 use Rattle.std.proofs.Common.{◌≡◌, ◌⊎◌, inl, ⊎_elim, ℕ, zero, suc, ◌+◌, ◌≤◌, true, false, List, [], ◌∷◌, length, get_or, refl, ap, sym, subst, ◌∙◌, arith, None}
 use Rattle.std.proofs.lemmas.Bool.{false≢true}
-use Rattle.plain_state.specs.declared.slot.SlotId.{SlotId}
-use Rattle.plain_state.specs.State.{seat_at}
-use Rattle.plain_state.specs.Steps.{word_of}
-use Rattle.plain_state.proofs.Kit.{times_none}
-use Rattle.queue_law.specs.declared.view.Item.{Item}
-use Rattle.queue_law.specs.declared.view.View.{View as QueueView}
-use Rattle.queue_law.specs.Views as queue
-use Rattle.queue_law.specs.declared.view.Form.{Form}
-use Rattle.queue_law.specs.declared.view.Form.TheVariants.{Linked, Double}
-use Rattle.queue_law.specs.Views.{no_item, no_load, view_of}
-use Rattle.queue_law.specs.Chain.{Ends, Sent, Lags, sent}
-use Rattle.queue_law.specs.Law.{QueueLaw, WholeLaw}
-use Rattle.queue_law.specs.Lists.{home, item_times, tagged, taken_items}
-use Rattle.queue_law.specs.Notes.{Carries, Emptied, Flies, Sees}
-use Rattle.queue_law.specs.Words as words
-use Rattle.queue_law.specs.Words.{cell_at, id}
-use Rattle.queue_law.proofs.Leave.{items_none}
-use Rattle.queue_law.proofs.Notes.{carries_none}
-use Rattle.queue_law.proofs.Orders.{tagged_none}
-use Rattle.queue_law.proofs.Start.{zero_total}
-use Rattle.directory_law.specs.declared.view.View.{View as DirectoryView}
-use Rattle.directory_law.specs.Cells.{Area, cell, full, on, set_cells}
-use Rattle.directory_law.specs.Chains.{OwnSlot}
-use Rattle.directory_law.specs.Learnt.{Learnt}
-use Rattle.directory_law.specs.Law.{DirectoryLaw}
-use Rattle.directory_law.specs.Payloads.{IsOwn}
-use Rattle.directory_law.specs.Views as directory
-use Rattle.directory_law.specs.Views.{In, fresh, keeps, times_of, total}
-use Rattle.directory_law.proofs.Bytes.{zeros_not_own}
-use Rattle.directory_law.proofs.Kit.{none_some}
-use Rattle.directory_law.proofs.Notes.{none_of}
+use Rattle.plain_audit.specs.plain_state.declared.slot.SlotId.{SlotId}
+use Rattle.plain_audit.specs.plain_state.State.{seat_at}
+use Rattle.plain_audit.specs.plain_state.Steps.{word_of}
+use Rattle.plain_audit.proofs.Below.plain_state.Kit.{times_none}
+use Rattle.words_law.specs.queue_law.declared.view.Item.{Item}
+use Rattle.words_law.specs.queue_law.declared.view.View.{View as QueueView}
+use Rattle.words_law.specs.queue_law.Views as queue
+use Rattle.words_law.specs.queue_law.declared.view.Form.{Form}
+use Rattle.words_law.specs.queue_law.declared.view.Form.TheVariants.{Linked, Double}
+use Rattle.words_law.specs.queue_law.Views.{no_item, no_load, view_of}
+use Rattle.words_law.specs.queue_law.Chain.{Ends, Sent, Lags, sent}
+use Rattle.words_law.specs.queue_law.Law.{QueueLaw, WholeLaw}
+use Rattle.words_law.specs.queue_law.Lists.{home, item_times, tagged, taken_items}
+use Rattle.words_law.specs.queue_law.Notes.{Carries, Emptied, Flies, Sees}
+use Rattle.words_law.specs.queue_law.Words as words
+use Rattle.words_law.specs.queue_law.Words.{cell_at, id}
+use Rattle.words_law.proofs.Below.queue_law.Leave.{items_none}
+use Rattle.words_law.proofs.Below.queue_law.Notes.{carries_none}
+use Rattle.words_law.proofs.Below.queue_law.Orders.{tagged_none}
+use Rattle.words_law.proofs.Below.queue_law.Start.{zero_total}
+use Rattle.words_law.specs.directory_law.declared.view.View.{View as DirectoryView}
+use Rattle.words_law.specs.directory_law.Cells.{Area, cell, full, on, set_cells}
+use Rattle.words_law.specs.directory_law.Chains.{OwnSlot}
+use Rattle.words_law.specs.directory_law.Learnt.{Learnt}
+use Rattle.words_law.specs.directory_law.Law.{DirectoryLaw}
+use Rattle.words_law.specs.directory_law.Payloads.{IsOwn}
+use Rattle.words_law.specs.directory_law.Views as directory
+use Rattle.words_law.specs.directory_law.Views.{In, fresh, keeps, times_of, total}
+use Rattle.words_law.proofs.Below.directory_law.Bytes.{zeros_not_own}
+use Rattle.words_law.proofs.Below.directory_law.Kit.{none_some}
+use Rattle.words_law.proofs.Below.directory_law.Notes.{none_of}
 use Rattle.words_law.specs.Views.{View}
 use Rattle.words_rest.specs.Needed.{HasNodeLeft}
 use Rattle.words_rest.specs.Rest.{IsQuiet}

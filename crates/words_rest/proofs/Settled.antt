@@ -1,11 +1,11 @@
 -- A state that has settled rests.
 use Rattle.std.proofs.Common.{◌≡◌, ℕ, zero, suc, ◌<◌, List, [], ◌∷◌, refl, ap, arith, None}
-use Rattle.plain_state.specs.declared.slot.Kind.{Kind}
-use Rattle.plain_state.specs.declared.slot.SlotId.{SlotId}
-use Rattle.plain_state.specs.Lists.{Entry, entry_times}
-use Rattle.plain_state.specs.State.{Plain, seat_at}
-use Rattle.plain_state.proofs.Kit.{entry_cons, entry_none, entry_self}
-use Rattle.plain_store.specs.Settling.{IsSettled}
+use Rattle.plain_audit.specs.plain_state.declared.slot.Kind.{Kind}
+use Rattle.plain_audit.specs.plain_state.declared.slot.SlotId.{SlotId}
+use Rattle.plain_audit.specs.plain_state.Lists.{Entry, entry_times}
+use Rattle.plain_audit.specs.plain_state.State.{Plain, seat_at}
+use Rattle.plain_audit.proofs.Below.plain_state.Kit.{entry_cons, entry_none, entry_self}
+use Rattle.plain_audit.specs.plain_store.Settling.{IsSettled}
 use Rattle.words_rest.specs.Rest.{IsQuiet, Rests}
 
 -- a list in which nothing stands has nothing

@@ -3,22 +3,22 @@ use Rattle.std.specs.Prelude.{map, sum_by, Some}
 use Rattle.std.specs.List.{flat_map}
 use Rattle.std.proofs.Common.{◌≡◌, inl, inr, ⊎_elim, ℕ, ◌<◌, List, [], ◌∷◌, length, refl, ap, sym, subst, ◌∙◌, arith}
 use Rattle.std.proofs.lemmas.List.Sums.{sum_by-append, sum_by-cons}
-use Rattle.plain_state.specs.declared.slot.SlotId.{SlotId}
-use Rattle.plain_state.specs.declared.slot.Stage.TheVariants.{Live}
-use Rattle.plain_state.specs.Lawful.{Lawful}
-use Rattle.plain_state.specs.Lists.{times}
-use Rattle.plain_state.specs.References.{held_in, over_slots}
-use Rattle.plain_state.specs.State.{Plain, seat_at, slot_at, stage_at}
-use Rattle.plain_state.proofs.Kit.{held_other, held_self, times_append, times_cons, times_none}
-use Rattle.protocol_pairs.specs.Shares.{weight_in_part}
-use Rattle.directory_law.specs.Cells.{Area}
-use Rattle.directory_law.specs.Chains.{Reads}
-use Rattle.directory_law.specs.Law.{DirectoryLaw}
-use Rattle.directory_law.specs.Bytes.{piece_weight, text_bytes}
-use Rattle.directory_law.specs.Payloads.{IsPart, IsText, Text}
-use Rattle.directory_law.specs.Views.{Each}
+use Rattle.plain_audit.specs.plain_state.declared.slot.SlotId.{SlotId}
+use Rattle.plain_audit.specs.plain_state.declared.slot.Stage.TheVariants.{Live}
+use Rattle.plain_audit.specs.plain_state.Lawful.{Lawful}
+use Rattle.plain_audit.specs.plain_state.Lists.{times}
+use Rattle.plain_audit.specs.plain_state.References.{held_in, over_slots}
+use Rattle.plain_audit.specs.plain_state.State.{Plain, seat_at, slot_at, stage_at}
+use Rattle.plain_audit.proofs.Below.plain_state.Kit.{held_other, held_self, times_append, times_cons, times_none}
+use Rattle.words_law.specs.protocol_pairs.Shares.{weight_in_part}
+use Rattle.words_law.specs.directory_law.Cells.{Area}
+use Rattle.words_law.specs.directory_law.Chains.{Reads}
+use Rattle.words_law.specs.directory_law.Law.{DirectoryLaw}
+use Rattle.words_law.specs.directory_law.Bytes.{piece_weight, text_bytes}
+use Rattle.words_law.specs.directory_law.Payloads.{IsPart, IsText, Text}
+use Rattle.words_law.specs.directory_law.Views.{Each}
 use Rattle.plain_audit.specs.Audits.{if_live, live_bytes, live_slots}
-use Rattle.cdrc_text.specs.Text.{slots_of_word}
+use Rattle.words_law.specs.cdrc_text.Text.{slots_of_word}
 use Rattle.words_law.specs.Texts.{AllPieces, all_kept, text_in}
 use Rattle.words_law.specs.Views.{View, directories}
 use Rattle.words_rest.specs.Nodes.{HasNoNode}

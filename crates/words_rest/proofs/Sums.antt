@@ -2,15 +2,15 @@
 use Rattle.std.proofs.Common.{◌≡◌, ◌≢◌, ◌⊎◌, inl, inr, ⊎_elim, ℕ, suc, ◌+◌, ◌<◌, List, [], ◌∷◌, get_or, refl, ap, sym, ◌∙◌, arith, Option, Some, None}
 use Rattle.std.specs.Prelude.{if◌then◌else◌}
 use Rattle.std.proofs.lemmas.List.Sums.{sum_by-cons}
-use Rattle.plain_state.specs.declared.slot.PlainSlot.{PlainSlot}
-use Rattle.plain_state.specs.declared.slot.SlotId.{SlotId}
-use Rattle.plain_state.specs.declared.slot.Stage.{Stage}
-use Rattle.plain_state.specs.declared.slot.Stage.TheVariants.{Free, Blank, Live, Ended, Husk}
-use Rattle.plain_state.specs.Lists.{cell_times, holds}
-use Rattle.plain_state.specs.References.{held_in, over_seats, over_slots}
-use Rattle.plain_state.specs.State.{Plain, PlainSeat, new_seat, new_slot, stage_at}
+use Rattle.plain_audit.specs.plain_state.declared.slot.PlainSlot.{PlainSlot}
+use Rattle.plain_audit.specs.plain_state.declared.slot.SlotId.{SlotId}
+use Rattle.plain_audit.specs.plain_state.declared.slot.Stage.{Stage}
+use Rattle.plain_audit.specs.plain_state.declared.slot.Stage.TheVariants.{Free, Blank, Live, Ended, Husk}
+use Rattle.plain_audit.specs.plain_state.Lists.{cell_times, holds}
+use Rattle.plain_audit.specs.plain_state.References.{held_in, over_seats, over_slots}
+use Rattle.plain_audit.specs.plain_state.State.{Plain, PlainSeat, new_seat, new_slot, stage_at}
 use Rattle.plain_audit.specs.Audits.{if_live, live_bytes, live_slots}
-use Rattle.plain_state.proofs.Kit.{cells_none, held_is, held_none, none_or_some}
+use Rattle.plain_audit.proofs.Below.plain_state.Kit.{cells_none, held_is, held_none, none_or_some}
 
 -- a number of which no seat has any
 pub seats_none : (f : PlainSeat → ℕ) (vs : List PlainSeat)

@@ -1,14 +1,14 @@
 -- What a view of the directory tells of references that are kept.
 use Rattle.std.specs.Prelude.{ℕ, ◌≡◌, ◌<◌, ◌++◌, All, List, [], ◌∷◌, slice_index_or}
-use Rattle.plain_state.specs.declared.slot.SlotId.{SlotId}
-use Rattle.plain_state.specs.Lists.{times}
-use Rattle.plain_state.specs.State.{Plain, seat_at, slot_at}
-use Rattle.plain_protocol.specs.Laws.{Meets}
-use Rattle.queue_law.specs.Chain.{Ends}
-use Rattle.directory_law.specs.declared.view.View.{View as DirectoryView}
-use Rattle.directory_law.specs.Bytes.{AreBytes, IsTextOf}
-use Rattle.directory_law.specs.Cells.{Area}
-use Rattle.directory_law.specs.Payloads.{Text}
+use Rattle.plain_audit.specs.plain_state.declared.slot.SlotId.{SlotId}
+use Rattle.plain_audit.specs.plain_state.Lists.{times}
+use Rattle.plain_audit.specs.plain_state.State.{Plain, seat_at, slot_at}
+use Rattle.plain_audit.specs.plain_protocol.Laws.{Meets}
+use Rattle.words_law.specs.queue_law.Chain.{Ends}
+use Rattle.words_law.specs.directory_law.declared.view.View.{View as DirectoryView}
+use Rattle.words_law.specs.directory_law.Bytes.{AreBytes, IsTextOf}
+use Rattle.words_law.specs.directory_law.Cells.{Area}
+use Rattle.words_law.specs.directory_law.Payloads.{Text}
 use Rattle.words_law.specs.Known.{KnowsText}
 use Rattle.words_law.specs.Law.{WordsLaw}
 use Rattle.words_law.specs.Texts.{AllPieces}

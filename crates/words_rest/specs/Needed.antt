@@ -1,11 +1,11 @@
 -- That the law alone doesn't tell that no node is left.
 use Rattle.std.specs.Prelude.{◌≡◌, ◌≤◌, true, List, [], slice_index_or, Some}
-use Rattle.plain_state.specs.declared.slot.SlotId.{SlotId}
-use Rattle.plain_state.specs.State.{Plain, slot_at}
-use Rattle.plain_protocol.specs.Laws.{Meets}
-use Rattle.plain_protocol.specs.Owns.{is_alone}
-use Rattle.queue_law.specs.Chain.{Ends}
-use Rattle.directory_law.specs.Cells.{Area}
+use Rattle.plain_audit.specs.plain_state.declared.slot.SlotId.{SlotId}
+use Rattle.plain_audit.specs.plain_state.State.{Plain, slot_at}
+use Rattle.plain_audit.specs.plain_protocol.Laws.{Meets}
+use Rattle.plain_audit.specs.plain_protocol.Owns.{is_alone}
+use Rattle.words_law.specs.queue_law.Chain.{Ends}
+use Rattle.words_law.specs.directory_law.Cells.{Area}
 use Rattle.words_law.specs.Law.{WordsLaw}
 use Rattle.words_law.specs.Texts.{AllPieces}
 use Rattle.words_law.specs.Views.{View, gone}

@@ -1,8 +1,8 @@
 -- The nodes of a queue that live.
 use Rattle.std.specs.Prelude.{◌≡◌, Some}
-use Rattle.plain_state.specs.declared.slot.SlotId.{SlotId}
-use Rattle.plain_state.specs.declared.slot.Stage.TheVariants.{Live}
-use Rattle.plain_state.specs.State.{Plain, no_payload, slot_at, stage_at}
+use Rattle.plain_audit.specs.plain_state.declared.slot.SlotId.{SlotId}
+use Rattle.plain_audit.specs.plain_state.declared.slot.Stage.TheVariants.{Live}
+use Rattle.plain_audit.specs.plain_state.State.{Plain, no_payload, slot_at, stage_at}
 use Rattle.plain_audit.specs.Reached.{IsUnreached}
 
 -- the slot lives, and has a node's payload

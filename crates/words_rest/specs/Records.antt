@@ -1,11 +1,11 @@
 -- The records that seat 0 owns, and their words.
 use Rattle.std.specs.Prelude.{ℕ, ◌≡◌, ◌<◌, ◌≤◌, ◌↔◌, List, length, map, sum_by}
-use Rattle.plain_state.specs.declared.slot.SlotId.{SlotId}
-use Rattle.plain_state.specs.Lists.{times}
-use Rattle.plain_state.specs.State.{Plain, seat_at, slot_at}
-use Rattle.directory_law.specs.Bytes.{text_bytes}
-use Rattle.heap_audit.specs.declared.finding.Audit.{Audit}
-use Rattle.cdrc_text.specs.Text.{slots_of_word}
+use Rattle.plain_audit.specs.plain_state.declared.slot.SlotId.{SlotId}
+use Rattle.plain_audit.specs.plain_state.Lists.{times}
+use Rattle.plain_audit.specs.plain_state.State.{Plain, seat_at, slot_at}
+use Rattle.words_law.specs.directory_law.Bytes.{text_bytes}
+use Rattle.plain_audit.specs.heap_audit.declared.finding.Audit.{Audit}
+use Rattle.words_law.specs.cdrc_text.Text.{slots_of_word}
 use Rattle.words_law.specs.Texts.{all_kept, text_in}
 use Rattle.words_law.specs.Views.{View, directories}
 

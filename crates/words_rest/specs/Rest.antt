@@ -1,15 +1,15 @@
 -- A state at rest, of which seat 0 alone has anything: nothing waits in it, and what lives is referred to.
 use Rattle.std.specs.Prelude.{◌≡◌, ℕ, ◌<◌, List, [], None}
-use Rattle.plain_state.specs.declared.act.EventPlace.TheVariants.{Cell}
-use Rattle.plain_state.specs.declared.slot.SlotId.{SlotId}
-use Rattle.plain_state.specs.declared.slot.Stage.TheVariants.{Live}
-use Rattle.plain_state.specs.Lists.{times}
-use Rattle.plain_state.specs.Places.{content}
-use Rattle.plain_state.specs.References.{strong_refs}
-use Rattle.plain_state.specs.State.{Plain, PlainSeat, seat_at, slot_at, stage_at}
-use Rattle.directory_law.specs.declared.view.View.{View as DirectoryView}
-use Rattle.directory_law.specs.Payloads.{Text}
-use Rattle.directory_law.specs.Views.{KeptIn}
+use Rattle.plain_audit.specs.plain_state.declared.act.EventPlace.TheVariants.{Cell}
+use Rattle.plain_audit.specs.plain_state.declared.slot.SlotId.{SlotId}
+use Rattle.plain_audit.specs.plain_state.declared.slot.Stage.TheVariants.{Live}
+use Rattle.plain_audit.specs.plain_state.Lists.{times}
+use Rattle.plain_audit.specs.plain_state.Places.{content}
+use Rattle.plain_audit.specs.plain_state.References.{strong_refs}
+use Rattle.plain_audit.specs.plain_state.State.{Plain, PlainSeat, seat_at, slot_at, stage_at}
+use Rattle.words_law.specs.directory_law.declared.view.View.{View as DirectoryView}
+use Rattle.words_law.specs.directory_law.Payloads.{Text}
+use Rattle.words_law.specs.directory_law.Views.{KeptIn}
 use Rattle.words_law.specs.Views.{View, directories}
 
 -- the seat has nothing deferred, is under no snapshot, has nothing dying, fills no slot, and owns nothing weakly

@@ -1,17 +1,17 @@
 -- A row for each record that is left, and the lines of both audits.
 use Rattle.std.specs.Prelude.{◌≡◌, ◌<◌, ◌↔◌, ℕ, List, [], ◌∷◌, length, map}
 use Rattle.std.specs.List.{Contains, sum_by}
-use Rattle.cdrc_text.specs.declared.row.AuditLine.{AuditLine}
-use Rattle.cdrc_text.specs.declared.row.Row.{Row}
-use Rattle.cdrc_text.specs.declared.row.Totals.{Totals}
-use Rattle.cdrc_text.specs.Fold.{File, IsInByteOrder, holders_in, occurrences_in}
-use Rattle.cdrc_text.specs.Text.{word_of}
-use Rattle.directory_law.specs.declared.view.View.{View as DirectoryView}
-use Rattle.heap_audit.specs.declared.finding.Audit.{Audit}
-use Rattle.plain_state.specs.declared.slot.SlotId.{SlotId}
-use Rattle.plain_state.specs.Lists.{times}
-use Rattle.plain_state.specs.References.{strong_refs}
-use Rattle.plain_state.specs.State.{Plain}
+use Rattle.words_law.specs.cdrc_text.declared.row.AuditLine.{AuditLine}
+use Rattle.words_law.specs.cdrc_text.declared.row.Row.{Row}
+use Rattle.words_law.specs.cdrc_text.declared.row.Totals.{Totals}
+use Rattle.words_law.specs.cdrc_text.Fold.{File, IsInByteOrder, holders_in, occurrences_in}
+use Rattle.words_law.specs.cdrc_text.Text.{word_of}
+use Rattle.words_law.specs.directory_law.declared.view.View.{View as DirectoryView}
+use Rattle.plain_audit.specs.heap_audit.declared.finding.Audit.{Audit}
+use Rattle.plain_audit.specs.plain_state.declared.slot.SlotId.{SlotId}
+use Rattle.plain_audit.specs.plain_state.Lists.{times}
+use Rattle.plain_audit.specs.plain_state.References.{strong_refs}
+use Rattle.plain_audit.specs.plain_state.State.{Plain}
 use Rattle.words_rest.specs.Kept.{TellsWord}
 
 -- the numbers of an audit

@@ -1,13 +1,13 @@
 //! What the references that seat 0 keeps to records of files' words tell.
 ghost use Rattle.std.specs.Prelude.{◌≡◌, ◌<◌, ◌↔◌, ℕ, List, [], slice_index_or};
-ghost use Rattle.plain_state.specs.declared.slot.SlotId.{SlotId};
-ghost use Rattle.plain_state.specs.Lists.{times};
-ghost use Rattle.plain_state.specs.References.{strong_refs};
-ghost use Rattle.plain_state.specs.State.{Plain, seat_at};
-ghost use Rattle.queue_law.specs.Chain.{Ends};
-ghost use Rattle.directory_law.specs.Bytes.{AreBytes};
-ghost use Rattle.directory_law.specs.Cells.{Area};
-ghost use Rattle.cdrc_text.specs.Fold.{File, holders_in};
+ghost use Rattle.plain_audit.specs.plain_state.declared.slot.SlotId.{SlotId};
+ghost use Rattle.plain_audit.specs.plain_state.Lists.{times};
+ghost use Rattle.plain_audit.specs.plain_state.References.{strong_refs};
+ghost use Rattle.plain_audit.specs.plain_state.State.{Plain, seat_at};
+ghost use Rattle.words_law.specs.queue_law.Chain.{Ends};
+ghost use Rattle.words_law.specs.directory_law.Bytes.{AreBytes};
+ghost use Rattle.words_law.specs.directory_law.Cells.{Area};
+ghost use Rattle.words_law.specs.cdrc_text.Fold.{File, holders_in};
 ghost use Rattle.words_law.specs.Views.{View, directories, gone};
 ghost use Rattle.words_rest.specs.Kept.{KeepsRecordsOf, TellsWord};
 ghost use Rattle.words_rest.specs.Nodes.{HasNoNode};

@@ -29,6 +29,8 @@ pub use kept::{
     words_of_kept_are_those_of_files,
 };
 pub use nodes::{a_node_may_hold_itself, no_node_is_left, nothing_is_unreached};
+pub use plain_audit::Deleter;
 pub use records::{audits_find_records, heads_are_counted, nothing_is_left, records_are_left};
 pub use rest::settled_states_rest;
+pub use words_law::{Form, Left, PairKind, Right};
 pub use written::what_is_left_is_the_report;

@@ -1,18 +1,18 @@
 //! That no node of the queue is left, and nothing that only a cycle keeps.
 ghost use Rattle.std.specs.Prelude.{◌≡◌, ◌≤◌, ℕ, List, None};
-ghost use Rattle.plain_state.specs.declared.act.EventPlace.TheVariants.{Cell};
-ghost use Rattle.plain_state.specs.declared.act.PlainAct.{PlainAct};
-ghost use Rattle.plain_state.specs.Lawful.{Lawful};
-ghost use Rattle.plain_state.specs.Places.{content};
-ghost use Rattle.plain_state.specs.State.{Plain};
-ghost use Rattle.plain_state.specs.Steps.{Does};
-ghost use Rattle.plain_protocol.specs.Acts.{IsCalm};
-ghost use Rattle.plain_protocol.specs.Laws.{Meets};
-ghost use Rattle.queue_law.specs.declared.view.View.{View as QueueView};
-ghost use Rattle.queue_law.specs.Views as queue;
-ghost use Rattle.queue_law.specs.Chain.{Ends};
-ghost use Rattle.queue_law.specs.Law.{QueueLaw};
-ghost use Rattle.directory_law.specs.Cells.{Area};
+ghost use Rattle.plain_audit.specs.plain_state.declared.act.EventPlace.TheVariants.{Cell};
+ghost use Rattle.plain_audit.specs.plain_state.declared.act.PlainAct.{PlainAct};
+ghost use Rattle.plain_audit.specs.plain_state.Lawful.{Lawful};
+ghost use Rattle.plain_audit.specs.plain_state.Places.{content};
+ghost use Rattle.plain_audit.specs.plain_state.State.{Plain};
+ghost use Rattle.plain_audit.specs.plain_state.Steps.{Does};
+ghost use Rattle.plain_audit.specs.plain_protocol.Acts.{IsCalm};
+ghost use Rattle.plain_audit.specs.plain_protocol.Laws.{Meets};
+ghost use Rattle.words_law.specs.queue_law.declared.view.View.{View as QueueView};
+ghost use Rattle.words_law.specs.queue_law.Views as queue;
+ghost use Rattle.words_law.specs.queue_law.Chain.{Ends};
+ghost use Rattle.words_law.specs.queue_law.Law.{QueueLaw};
+ghost use Rattle.words_law.specs.directory_law.Cells.{Area};
 ghost use Rattle.plain_audit.specs.Audits.{IsAudit, deferred_entries};
 ghost use Rattle.words_law.specs.Law.{WordsLaw};
 ghost use Rattle.words_law.specs.Texts.{AllPieces};
@@ -21,7 +21,7 @@ ghost use Rattle.words_rest.specs.Needed.{HasNodeLeft};
 ghost use Rattle.words_rest.specs.Nodes.{HasNoNode, HasNoNodeAsItem, IsAllReached};
 ghost use Rattle.words_rest.specs.Rest.{IsLeft, Rests};
 
-use heap_audit::Audit;
+use plain_audit::Audit;
 
 /// No node of the queue is left where none is another one's item: it would be referred to from field 0 of a node, and
 /// that one too, without end. None is left either where nothing is unreached, as where an audit counts no such slot.

@@ -1,20 +1,20 @@
 //! That just the records which seat 0 owns are left.
 ghost use Rattle.std.specs.Prelude.{◌≡◌, ◌≢◌, ◌<◌, ℕ, List, [], length, sum_by};
-ghost use Rattle.plain_state.specs.declared.slot.SlotId.{SlotId};
-ghost use Rattle.plain_state.specs.declared.slot.Stage.TheVariants.{Live};
-ghost use Rattle.plain_state.specs.Lists.{times};
-ghost use Rattle.plain_state.specs.References.{strong_refs};
-ghost use Rattle.plain_state.specs.State.{Plain, seat_at, slot_at, stage_at};
-ghost use Rattle.plain_protocol.specs.Laws.{Meets};
-ghost use Rattle.protocol_pairs.specs.Shares.{weight_in_part};
-ghost use Rattle.queue_law.specs.declared.view.Item.{Item};
-ghost use Rattle.queue_law.specs.Chain.{Ends};
-ghost use Rattle.directory_law.specs.Bytes.{piece_weight};
-ghost use Rattle.directory_law.specs.Cells.{Area};
-ghost use Rattle.directory_law.specs.Law.{IsBound};
-ghost use Rattle.directory_law.specs.Payloads.{IsHead};
+ghost use Rattle.plain_audit.specs.plain_state.declared.slot.SlotId.{SlotId};
+ghost use Rattle.plain_audit.specs.plain_state.declared.slot.Stage.TheVariants.{Live};
+ghost use Rattle.plain_audit.specs.plain_state.Lists.{times};
+ghost use Rattle.plain_audit.specs.plain_state.References.{strong_refs};
+ghost use Rattle.plain_audit.specs.plain_state.State.{Plain, seat_at, slot_at, stage_at};
+ghost use Rattle.plain_audit.specs.plain_protocol.Laws.{Meets};
+ghost use Rattle.words_law.specs.protocol_pairs.Shares.{weight_in_part};
+ghost use Rattle.words_law.specs.queue_law.declared.view.Item.{Item};
+ghost use Rattle.words_law.specs.queue_law.Chain.{Ends};
+ghost use Rattle.words_law.specs.directory_law.Bytes.{piece_weight};
+ghost use Rattle.words_law.specs.directory_law.Cells.{Area};
+ghost use Rattle.words_law.specs.directory_law.Law.{IsBound};
+ghost use Rattle.words_law.specs.directory_law.Payloads.{IsHead};
 ghost use Rattle.plain_audit.specs.Audits.{IsAudit, live_bytes, live_slots};
-ghost use Rattle.cdrc_text.specs.Text.{slots_of_word};
+ghost use Rattle.words_law.specs.cdrc_text.Text.{slots_of_word};
 ghost use Rattle.words_law.specs.Law.{WordsLaw, head_of};
 ghost use Rattle.words_law.specs.Texts.{AllPieces, IsAlive, all_kept, text_in, word_of_item};
 ghost use Rattle.words_law.specs.Views.{View, directories};
@@ -22,7 +22,7 @@ ghost use Rattle.words_rest.specs.Nodes.{HasNoNode};
 ghost use Rattle.words_rest.specs.Records.{AreOwned, FindsRecords, word_at, words_at};
 ghost use Rattle.words_rest.specs.Rest.{IsLeft};
 
-use heap_audit::Audit;
+use plain_audit::Audit;
 
 /// What seat 0 owns is the live record of its text. Where no node is left, each head has just the strong references
 /// that seat 0 owns. The word of a slot is that of each item that is alive in it.

@@ -1,7 +1,7 @@
 //! When a state rests.
 ghost use Rattle.std.specs.Prelude.{◌≡◌, ◌<◌, ℕ, [], None};
-ghost use Rattle.plain_state.specs.State.{Plain, seat_at};
-ghost use Rattle.plain_store.specs.Settling.{IsSettled};
+ghost use Rattle.plain_audit.specs.plain_state.State.{Plain, seat_at};
+ghost use Rattle.plain_audit.specs.plain_store.Settling.{IsSettled};
 ghost use Rattle.words_rest.specs.Rest.{IsQuiet, Rests};
 
 /// A state that has settled rests, where seat 0 is under no snapshot, fills no slot and owns nothing weakly, and every

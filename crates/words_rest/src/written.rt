@@ -1,15 +1,15 @@
 //! What is left is written as the report of the files.
 ghost use Rattle.std.specs.Prelude.{◌≡◌, ℕ, List, [], slice_index_or};
-ghost use Rattle.plain_state.specs.declared.slot.SlotId.{SlotId};
-ghost use Rattle.plain_state.specs.State.{Plain};
-ghost use Rattle.protocol_pairs.specs.Shares.{weight_in_part};
-ghost use Rattle.queue_law.specs.Chain.{Ends};
-ghost use Rattle.directory_law.specs.Bytes.{AreBytes, piece_weight};
-ghost use Rattle.directory_law.specs.Cells.{Area};
-ghost use Rattle.cdrc_text.specs.declared.row.Row.{Row};
-ghost use Rattle.cdrc_text.specs.Fold.{File, holders_in};
-ghost use Rattle.cdrc_text.specs.Report.{report_of};
-ghost use Rattle.cdrc_text.specs.Text.{IsReport};
+ghost use Rattle.plain_audit.specs.plain_state.declared.slot.SlotId.{SlotId};
+ghost use Rattle.plain_audit.specs.plain_state.State.{Plain};
+ghost use Rattle.words_law.specs.protocol_pairs.Shares.{weight_in_part};
+ghost use Rattle.words_law.specs.queue_law.Chain.{Ends};
+ghost use Rattle.words_law.specs.directory_law.Bytes.{AreBytes, piece_weight};
+ghost use Rattle.words_law.specs.directory_law.Cells.{Area};
+ghost use Rattle.words_law.specs.cdrc_text.declared.row.Row.{Row};
+ghost use Rattle.words_law.specs.cdrc_text.Fold.{File, holders_in};
+ghost use Rattle.words_law.specs.cdrc_text.Report.{report_of};
+ghost use Rattle.words_law.specs.cdrc_text.Text.{IsReport};
 ghost use Rattle.plain_audit.specs.Audits.{IsAudit};
 ghost use Rattle.words_law.specs.Views.{View, gone};
 ghost use Rattle.words_rest.specs.Kept.{KeepsRecordsOf};
@@ -19,7 +19,7 @@ ghost use Rattle.words_rest.specs.Rest.{IsLeft};
 ghost use Rattle.words_rest.specs.Written.{AreRowsAt, HaveWords, totals_found};
 ghost use Rattle.std.specs.List.{All};
 
-use heap_audit::Audit;
+use plain_audit::Audit;
 
 /// The rows of the records that are kept, counted where the state is at rest and no node is left, an audit of that
 /// state, and one that found nothing later, are the report of the files whose words were kept, in whatever order of

@@ -1,7 +1,7 @@
 -- Contents that are told decide between a refusal for a limit and none.
 use Rattle.std.proofs.Common.{ℕ, List, Ok, Err, IfErr, IfOk}
 use Rattle.std.specs.declared.result.Result.{Result}
-use Rattle.lane_gate.specs.Causes.{Stood}
+use Rattle.lane_reports.specs.lane_gate.Causes.{Stood}
 use Rattle.words_work.specs.Contents.{AreTold, Told}
 use Rattle.words_work.specs.Limits.{IsWithinLimits, PassesLimit}
 use Rattle.words_work.specs.Outcomes.{Counts, IsCounted, IsDoneOrStopped, IsTooLargeOrNoMemory, IsWhyUncounted, IsWhyUnread}

@@ -1,6 +1,6 @@
 -- Contents that are told decide whether a limit is passed.
 use Rattle.std.proofs.Common.{ℕ, ◌+◌, ◌<◌, ◌≤◌, inl, inr, List, length, IfSome, subst, arith}
-use Rattle.lane_gate.specs.Causes.{Rose, Stood}
+use Rattle.lane_reports.specs.lane_gate.Causes.{Rose, Stood}
 use Rattle.words_work.specs.Contents.{AreTold, IsTooLong, Told, bytes_in}
 use Rattle.words_work.specs.Limits.{HasTooMany, IsWithinLimits, PassesLimit, most_bytes}
 use Rattle.words_work.specs.Outcomes.{IsTooLarge}

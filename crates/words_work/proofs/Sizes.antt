@@ -1,7 +1,7 @@
 -- Sums over files, and the limits.
 use Rattle.std.proofs.Common.{◌≡◌, ℕ, zero, suc, ◌+◌, ◌<◌, ◌≤◌, List, [], ◌∷◌, ◌++◌, Option, Some, None, length, get_or, refl, arith}
 use Rattle.std.proofs.lemmas.List.Sums.{sum_by-append, sum_by-cons}
-use Rattle.cdrc_text.specs.Fold.{File}
+use Rattle.lane_reports.specs.cdrc_text.Fold.{File}
 use Rattle.std.specs.Prelude.{unwrap_or}
 use Rattle.words_work.specs.Limits.{pieces_in_all}
 

@@ -2,7 +2,7 @@
 use Rattle.std.specs.Prelude.{ℕ, ◌≡◌, ◌+◌, ◌<◌, List, [], ◌∷◌, ◌++◌, length, Some, IfSome}
 use Rattle.std.specs.List.{sum_by}
 use Rattle.std.specs.declared.option.Option.{Option}
-use Rattle.lane_gate.specs.Causes.{Rose}
+use Rattle.lane_reports.specs.lane_gate.Causes.{Rose}
 
 -- the content of each name, where a source tells it
 abbrev pub Told : Type 0

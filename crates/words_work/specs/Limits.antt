@@ -1,13 +1,13 @@
 -- How contents are to be counted, and within which limits.
 use Rattle.std.specs.Prelude.{ℕ, ◌≡◌, ◌+◌, ◌*◌, ◌<◌, ◌≤◌, ◌⊎◌, Bool, true, false, List, Some, length, map, string_bytes, unwrap_or, IfSome}
 use Rattle.std.specs.List.{sum_by}
-use Rattle.plain_state.specs.Limits.{most_slots}
+use Rattle.lane_reports.specs.plain_state.Limits.{most_slots}
 use Rattle.run_requests.specs.declared.asked.WordsArgs.{WordsArgs}
-use Rattle.queue_law.specs.declared.view.Form.{Form}
-use Rattle.queue_law.specs.declared.view.Form.TheVariants.{Linked, Double}
-use Rattle.cdrc_text.specs.Fold.{File}
-use Rattle.cdrc_text.specs.Pieces.{pieces_of}
-use Rattle.lane_domain.specs.Sizes.{most_lanes, slots_of_words}
+use Rattle.lane_reports.specs.queue_law.declared.view.Form.{Form}
+use Rattle.lane_reports.specs.queue_law.declared.view.Form.TheVariants.{Linked, Double}
+use Rattle.lane_reports.specs.cdrc_text.Fold.{File}
+use Rattle.lane_reports.specs.cdrc_text.Pieces.{pieces_of}
+use Rattle.lane_reports.specs.lane_domain.Sizes.{most_lanes, slots_of_words}
 use Rattle.words_work.specs.Contents.{bytes_in}
 use Rattle.words_work.specs.declared.plan.Plan.{Plan}
 

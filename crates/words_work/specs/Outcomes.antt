@@ -2,14 +2,14 @@
 use Rattle.std.specs.Prelude.{ℕ, ◌≡◌, ◌<◌, ◌⊎◌, List, length, map, Ok, Err}
 use Rattle.std.specs.declared.result.Result.{Result}
 use Rattle.std.specs.Global.{Vec}
-use Rattle.control_word.specs.Resting.{IsSpent}
-use Rattle.acquire_retire.specs.Seats.{SeatState}
-use Rattle.words_law.specs.Views.{View}
-use Rattle.cdrc_text.specs.Pieces.{pieces_of}
-use Rattle.cdrc_text.specs.Text.{IsText}
-use Rattle.lane_gate.specs.Causes.{Rose}
-use Rattle.lane_files.specs.declared.work.Work.{Work}
-use Rattle.lane_domain.specs.Sizes.{texts_in}
+use Rattle.lane_reports.specs.control_word.Resting.{IsSpent}
+use Rattle.lane_reports.specs.acquire_retire.Seats.{SeatState}
+use Rattle.lane_reports.specs.words_law.Views.{View}
+use Rattle.lane_reports.specs.cdrc_text.Pieces.{pieces_of}
+use Rattle.lane_reports.specs.cdrc_text.Text.{IsText}
+use Rattle.lane_reports.specs.lane_gate.Causes.{Rose}
+use Rattle.lane_reports.specs.lane_files.declared.work.Work.{Work}
+use Rattle.lane_reports.specs.lane_domain.Sizes.{texts_in}
 use Rattle.lane_reports.specs.Counting.{CountsAll}
 use Rattle.lane_reports.specs.Refusals.{IsWhyNothing}
 use Rattle.lane_reports.specs.Reporting.{IsLast}

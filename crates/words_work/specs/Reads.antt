@@ -1,7 +1,7 @@
 -- What a read of one file tells.
 use Rattle.std.specs.Prelude.{ℕ, ◌<◌, List, length, IfSome}
 use Rattle.std.specs.declared.option.Option.{Option}
-use Rattle.lane_gate.specs.Causes.{Rose}
+use Rattle.lane_reports.specs.lane_gate.Causes.{Rose}
 use Rattle.words_work.specs.Outcomes.{Counts}
 use Rattle.words_work.specs.declared.outcome.WordsRefused.{WordsRefused}
 use Rattle.words_work.specs.declared.outcome.WordsRefused.TheVariants as refused

@@ -1,14 +1,13 @@
 //! How contents are cut into pieces.
 ghost use Rattle.std.specs.Prelude.{◌≡◌, ◌≤◌, ◌<◌, ◌*◌, ◌+◌, All, IfErr, IfOk, IfSome, length, map};
-ghost use Rattle.cdrc_text.specs.Pieces.{pieces_of};
-ghost use Rattle.lane_files.specs.Files.{HasPieces, pieces_in};
+ghost use Rattle.lane_reports.specs.cdrc_text.Pieces.{pieces_of};
+ghost use Rattle.lane_reports.specs.lane_files.Files.{HasPieces, pieces_in};
 ghost use Rattle.words_work.specs.Cuts.{IsWhyUncut};
 ghost use Rattle.words_work.specs.Limits.{most_pieces, pieces_in_all};
 ghost use Rattle.words_work.specs.Outcomes.{bytes_of};
 
 use crate::outcome::WordsRefused;
-use cdrc_text::PiecesError;
-use lane_files::FileText;
+use lane_reports::{FileText, PiecesError};
 use std::alloc::Global;
 
 /// The most pieces of all files together.

@@ -19,7 +19,13 @@ mod plan;
 mod reading;
 mod working;
 
+pub use lane_reports::{
+    Deleter, FileFault, Files, Form, Gate, HonestFiles, HonestSink, HostFiles, HostSink, Meet,
+    MemFiles, MemSink, NodeKind, Open, PairKind, PayloadKind, PiecesError, RecordKind, Sink,
+    SinkFault, WordsLaw, pieces,
+};
 pub use outcome::{WordsDone, WordsRefused};
 pub use plan::Plan;
 pub use reading::{MOST_BYTES, read_file, read_files};
+pub use run_requests::WordsArgs;
 pub use working::{count_contents, words_work};

@@ -2,11 +2,8 @@
 ghost use Rattle.std.specs.Prelude.{◌≡◌};
 ghost use Rattle.words_work.specs.declared.outcome.WordsRefused.TheVariants as refused;
 
-use acquire_retire::Seat;
-use cdrc_text::Tally;
-use out_of_memory::OutOfMemory as NoMemory;
+use lane_reports::{OutOfMemory as NoMemory, Seat, Tally, WordsLaw};
 use std::alloc::AllocError;
-use words_protocol::WordsLaw;
 
 /// What was counted.
 #[derive(Drop)]

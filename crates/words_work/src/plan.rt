@@ -1,5 +1,5 @@
 //! How contents are counted.
-use queue_law::Form;
+use lane_reports::Form;
 
 /// How the words of some contents are to be counted.
 #[derive(Clone, Copy, Drop)]

@@ -6,7 +6,7 @@ ghost use Rattle.words_work.specs.Outcomes.{IsWhyUnread, bytes_of};
 ghost use Rattle.words_work.specs.Reads.{IsWhyOneUnread};
 
 use crate::outcome::WordsRefused;
-use lane_gate::{FileFault, Files};
+use lane_reports::{FileFault, Files};
 use std::alloc::Global;
 
 /// The most bytes of all files together, and of a file of lines.

@@ -1,9 +1,9 @@
 //! How contents are counted, and how files are.
 ghost use Rattle.std.specs.Prelude.{◌≡◌, ◌≤◌, ◌<◌, ℕ, List, IfErr, IfOk, OnOk, length};
-ghost use Rattle.deleter.specs.Weighing.{Weighs};
-ghost use Rattle.lane_gate.specs.Causes.{Stood};
-ghost use Rattle.lane_files.specs.Work.{IsWork};
-ghost use Rattle.lane_domain.specs.Sizes as domain;
+ghost use Rattle.lane_reports.specs.deleter.Weighing.{Weighs};
+ghost use Rattle.lane_reports.specs.lane_gate.Causes.{Stood};
+ghost use Rattle.lane_reports.specs.lane_files.Work.{IsWork};
+ghost use Rattle.lane_reports.specs.lane_domain.Sizes as domain;
 ghost use Rattle.words_work.specs.Contents.{AreTold, bytes_in};
 ghost use Rattle.words_work.specs.Cuts.{IsWhyUncutOf};
 ghost use Rattle.words_work.specs.Limits.{IsPlan, IsWithinLimits, PassesLimit, most_bytes, most_files, names_of, plan_of, slots_for};
@@ -13,16 +13,10 @@ use crate::cutting::cut_files;
 use crate::outcome::{WordsDone, WordsRefused};
 use crate::plan::Plan;
 use crate::reading::read_files;
-use deleter::Deleter;
-use directory_protocol::RecordKind;
-use lane_domain::{count_pieces, count_slots, is_within_limits};
-use lane_files::Work;
-use lane_gate::{Files, Gate};
-use lane_reports::{CountError, Counted, count_words};
-use plain_state::PayloadKind;
-use protocol_pairs::PairKind;
-use queue_law::Form;
-use queue_protocol::NodeKind;
+use lane_reports::{
+    CountError, Counted, Deleter, Files, Form, Gate, NodeKind, PairKind, PayloadKind, RecordKind,
+    Work, count_pieces, count_slots, count_words, is_within_limits,
+};
 use run_requests::WordsArgs;
 use std::alloc::Global;
 use std::sync::Wait;

@@ -1,9 +1,9 @@
 use Rattle.std.proofs.Common.{ap, sym, ◌∙◌}
 use Rattle.std.specs.Prelude.{Option, Some, None}
-use Rattle.plain_state.specs.declared.act.EventPlace.{EventPlace}
-use Rattle.plain_state.specs.declared.slot.Kind.{Kind}
-use Rattle.plain_state.specs.declared.slot.SlotId.{SlotId}
-use Rattle.core_events.specs.Steps.{CanGive}
+use Rattle.protected_loads.specs.plain_state.declared.act.EventPlace.{EventPlace}
+use Rattle.protected_loads.specs.plain_state.declared.slot.Kind.{Kind}
+use Rattle.protected_loads.specs.plain_state.declared.slot.SlotId.{SlotId}
+use Rattle.protected_loads.specs.core_events.Steps.{CanGive}
 use Rattle.protected_loads.specs.Retries.{LoadsAtLast}
 use Rattle.atomic_shared.proofs.StoredNames.{by_names, of_kind}
 use Rattle.atomic_shared.proofs.loading.load.Goals as goal

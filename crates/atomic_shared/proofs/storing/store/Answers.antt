@@ -1,8 +1,8 @@
 use Rattle.std.specs.Prelude.{Option}
-use Rattle.plain_state.specs.declared.act.EventPlace.{EventPlace}
-use Rattle.plain_state.specs.declared.slot.SlotId.{SlotId}
-use Rattle.core_events.specs.declared.act.Act.TheVariants as act
-use Rattle.acquire_retire.specs.Calls.{IsReady}
+use Rattle.protected_loads.specs.plain_state.declared.act.EventPlace.{EventPlace}
+use Rattle.protected_loads.specs.plain_state.declared.slot.SlotId.{SlotId}
+use Rattle.protected_loads.specs.core_events.declared.act.Act.TheVariants as act
+use Rattle.retiring_stores.specs.acquire_retire.Calls.{IsReady}
 use Rattle.retiring_stores.specs.Exchanging.{Swaps}
 use Rattle.retiring_stores.proofs.Opened.{stores}
 use Rattle.atomic_shared.specs.Places.{named, strong_place}

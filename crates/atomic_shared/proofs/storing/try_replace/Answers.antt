@@ -1,11 +1,11 @@
 use Rattle.std.specs.Prelude.{Option}
-use Rattle.plain_state.specs.declared.act.EventPlace.{EventPlace}
-use Rattle.plain_state.specs.declared.slot.Kind.{Kind}
-use Rattle.plain_state.specs.declared.slot.SlotId.{SlotId}
-use Rattle.core_events.specs.declared.act.Act.TheVariants as act
-use Rattle.core_events.specs.Steps.{without_given}
-use Rattle.acquire_retire.specs.Calls.{IsReady}
-use Rattle.control_word.specs.Moves.{KnowsStill}
+use Rattle.protected_loads.specs.plain_state.declared.act.EventPlace.{EventPlace}
+use Rattle.protected_loads.specs.plain_state.declared.slot.Kind.{Kind}
+use Rattle.protected_loads.specs.plain_state.declared.slot.SlotId.{SlotId}
+use Rattle.protected_loads.specs.core_events.declared.act.Act.TheVariants as act
+use Rattle.protected_loads.specs.core_events.Steps.{without_given}
+use Rattle.retiring_stores.specs.acquire_retire.Calls.{IsReady}
+use Rattle.retiring_stores.specs.control_word.Moves.{KnowsStill}
 use Rattle.atomic_shared.specs.Places.{named}
 use Rattle.atomic_shared.proofs.StoredNames.{from_names, of_kind}
 use Rattle.atomic_shared.proofs.storing.try_replace.Goals as goal

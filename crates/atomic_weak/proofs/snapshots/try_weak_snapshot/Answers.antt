@@ -1,9 +1,9 @@
 use Rattle.std.proofs.Common.{ap, rules, sym, subst}
 use Rattle.std.specs.Prelude.{Ok, Option}
-use Rattle.plain_state.specs.declared.act.EventPlace.{EventPlace}
-use Rattle.plain_state.specs.declared.slot.SlotId.{SlotId}
-use Rattle.core_events.specs.declared.act.Act.TheVariants as act
-use Rattle.acquire_retire.specs.Calls.{IsReady, IsSameView, same_view}
+use Rattle.protected_loads.specs.plain_state.declared.act.EventPlace.{EventPlace}
+use Rattle.protected_loads.specs.plain_state.declared.slot.SlotId.{SlotId}
+use Rattle.protected_loads.specs.core_events.declared.act.Act.TheVariants as act
+use Rattle.protected_loads.specs.acquire_retire.Calls.{IsReady, IsSameView, same_view}
 use Rattle.protected_loads.specs.Loads.{FindsNull, Misses}
 use Rattle.atomic_weak.proofs.Protected.{can_ask, ready_for}
 use Rattle.atomic_weak.proofs.Settled.{protected, settles}

@@ -1,11 +1,11 @@
 use Rattle.std.specs.Prelude.{Option}
-use Rattle.plain_state.specs.declared.act.EventPlace.{EventPlace}
-use Rattle.plain_state.specs.declared.slot.Kind.{Kind}
-use Rattle.plain_state.specs.declared.slot.SlotId.{SlotId}
-use Rattle.core_events.specs.declared.act.Act.TheVariants as act
-use Rattle.core_events.specs.Steps.{without_given}
-use Rattle.acquire_retire.specs.Calls.{IsReady}
-use Rattle.control_word.specs.Moves.{KnowsStill}
+use Rattle.protected_loads.specs.plain_state.declared.act.EventPlace.{EventPlace}
+use Rattle.protected_loads.specs.plain_state.declared.slot.Kind.{Kind}
+use Rattle.protected_loads.specs.plain_state.declared.slot.SlotId.{SlotId}
+use Rattle.protected_loads.specs.core_events.declared.act.Act.TheVariants as act
+use Rattle.protected_loads.specs.core_events.Steps.{without_given}
+use Rattle.protected_loads.specs.acquire_retire.Calls.{IsReady}
+use Rattle.protected_loads.specs.control_word.Moves.{KnowsStill}
 use Rattle.atomic_weak.specs.Places.{named}
 use Rattle.atomic_weak.proofs.Named.{from_names, of_kind}
 use Rattle.atomic_weak.proofs.storing.try_replace_weak.Goals as goal

@@ -1,6 +1,6 @@
 use Rattle.std.proofs.Common.{ℕ, subst, sym, ◌∙◌}
 use Rattle.std.specs.Prelude.{Option}
-use Rattle.control_word.specs.Moves.{KnowsStill}
+use Rattle.protected_loads.specs.control_word.Moves.{KnowsStill}
 use Rattle.atomic_weak.specs.Ending.{GivesUp, without_guarded}
 use Rattle.atomic_weak.specs.WeakSnapshots.{IsGuardedBy}
 use Rattle.atomic_weak.proofs.Released.{released}

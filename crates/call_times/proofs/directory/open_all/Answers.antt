@@ -1,8 +1,8 @@
 use Rattle.std.proofs.Common.{ap, arith, subst, sym}
 use Rattle.std.specs.Prelude.{All}
-use Rattle.core_events.specs.Runs.{IsShape}
-use Rattle.directory_calls.specs.Directories.{area_of}
-use Rattle.directory_law.specs.Owned.{first_view}
+use Rattle.turn_loops.specs.core_events.Runs.{IsShape}
+use Rattle.weak_intern.specs.directory_calls.Directories.{area_of}
+use Rattle.weak_intern.specs.directory_law.Owned.{first_view}
 use Rattle.turn_loops.proofs.Placings.{opened_are}
 use Rattle.call_times.specs.Interning.{IsFreeToIntern}
 use Rattle.call_times.proofs.Opened.{all_free}

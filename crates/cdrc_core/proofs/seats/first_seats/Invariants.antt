@@ -1,5 +1,5 @@
 use Rattle.std.proofs.Common.{◌≡◌, take, vec_capacity, vec_len, length}
-use Rattle.core_events.specs.Views.{first_views}
+use Rattle.core_law.specs.core_events.Views.{first_views}
 use Rattle.cdrc_core.proofs.seats.first_seats.Given as goal
 
 abbrev pub invariant-loop-seat : goal.invariant-loop-seat

@@ -1,7 +1,7 @@
 use Rattle.std.proofs.Common.{ℕ, List, ◌≡◌, ◌++◌, ◌-◌, ◌<◌, ◌≤◌, arith, get_or, length, length-drop, drop, ◌∙◌}
 use Rattle.std.proofs.lemmas.List.{take_all}
-use Rattle.cdrc_text.specs.declared.row.Totals.{Totals}
-use Rattle.cdrc_text.specs.Report.{closing_lines}
+use Rattle.command_line.specs.cdrc_text.declared.row.Totals.{Totals}
+use Rattle.command_line.specs.cdrc_text.Report.{closing_lines}
 use Rattle.cdrc_run.specs.Closings.{IsWholeLines}
 use Rattle.cdrc_run.proofs.Closings.{few_left, none_back, one_back, still_behind, there}
 use Rattle.cdrc_run.proofs.closing.last_lines.Goals as goal

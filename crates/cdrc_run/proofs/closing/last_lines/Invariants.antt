@@ -1,6 +1,6 @@
 use Rattle.std.proofs.Common.{◌≡◌, ◌++◌, ℕ, List, ◌≤◌, drop, length}
-use Rattle.cdrc_text.specs.declared.row.Totals.{Totals}
-use Rattle.cdrc_text.specs.Report.{closing_lines}
+use Rattle.command_line.specs.cdrc_text.declared.row.Totals.{Totals}
+use Rattle.command_line.specs.cdrc_text.Report.{closing_lines}
 use Rattle.cdrc_run.specs.Closings.{IsWholeLines}
 use Rattle.cdrc_run.proofs.Feeds.{feeds_in}
 use Rattle.cdrc_run.proofs.closing.last_lines.Given as goal

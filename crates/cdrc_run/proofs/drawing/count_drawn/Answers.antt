@@ -1,5 +1,5 @@
 use Rattle.std.proofs.Common.{◌≤◌, ◌∙◌, List, ℕ, map, refl, sym, subst}
-use Rattle.cdrc_text.specs.Pieces.{pieces_of}
+use Rattle.command_line.specs.cdrc_text.Pieces.{pieces_of}
 use Rattle.words_work.specs.Contents.{bytes_in}
 use Rattle.words_work.specs.Limits.{most_bytes}
 use Rattle.words_work.specs.Outcomes.{IsCounted, bytes_of}

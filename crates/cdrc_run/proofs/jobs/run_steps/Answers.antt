@@ -1,8 +1,8 @@
 use Rattle.std.proofs.Common.{List, ℕ, subst}
 use Rattle.std.proofs.lemmas.Result.{err_from_is_err_and}
-use Rattle.protocol_pairs.specs.Shares.{FitsItsPart}
-use Rattle.queue_protocol.specs.Nodes.{IsNodePayload}
-use Rattle.directory_law.specs.Bytes.{IsPiece}
+use Rattle.cdrc_scripts.specs.protocol_pairs.Shares.{FitsItsPart}
+use Rattle.words_work.specs.queue_protocol.Nodes.{IsNodePayload}
+use Rattle.words_work.specs.directory_law.Bytes.{IsPiece}
 use Rattle.cdrc_steps.specs.Meaning.{IsSteps}
 use Rattle.cdrc_run.proofs.Written.{steps_output, steps_why}
 use Rattle.cdrc_run.proofs.jobs.run_steps.Goals as goal

@@ -1,7 +1,7 @@
 use Rattle.std.proofs.Common.{refl}
-use Rattle.protocol_pairs.specs.Shares.{FitsItsPart}
-use Rattle.queue_protocol.specs.Nodes.{IsNodePayload}
-use Rattle.directory_law.specs.Bytes.{IsPiece}
+use Rattle.cdrc_scripts.specs.protocol_pairs.Shares.{FitsItsPart}
+use Rattle.words_work.specs.queue_protocol.Nodes.{IsNodePayload}
+use Rattle.words_work.specs.directory_law.Bytes.{IsPiece}
 use Rattle.cdrc_run.specs.Jobs.{job_of}
 use Rattle.cdrc_run.proofs.Ended.{ends_written}
 use Rattle.cdrc_run.proofs.Unread.{ends_without}

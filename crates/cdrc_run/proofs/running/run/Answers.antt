@@ -1,7 +1,7 @@
 use Rattle.std.proofs.Common.{IfSome, map, refl, string_bytes, subst}
 use Rattle.std.specs.declared.option.Option.{Option}
 use Rattle.command_line.specs.Requests.{Asks}
-use Rattle.run_requests.specs.declared.asked.Request.{Request}
+use Rattle.command_line.specs.run_requests.declared.asked.Request.{Request}
 use Rattle.cdrc_run.specs.Jobs.{job_of}
 use Rattle.cdrc_run.proofs.Asked.{ends_as_asked}
 use Rattle.cdrc_run.proofs.running.run.Goals as goal

@@ -1,8 +1,8 @@
 use Rattle.std.proofs.Common.{◌≡◌, Err, Ok, None, Some, [], refl, rules}
-use Rattle.line_words.specs.Words.{texts_of}
-use Rattle.script_lines.specs.Spelling.{Spells}
-use Rattle.script_lines.specs.declared.command.ScriptLine.TheVariants.{Heap}
-use Rattle.script_lines.specs.declared.refused.CommandRefused.TheVariants.{Syntax}
+use Rattle.line_machine.specs.line_words.Words.{texts_of}
+use Rattle.script_law.specs.script_lines.Spelling.{Spells}
+use Rattle.script_law.specs.script_lines.declared.command.ScriptLine.TheVariants.{Heap}
+use Rattle.script_law.specs.script_lines.declared.refused.CommandRefused.TheVariants.{Syntax}
 use Rattle.domain_desk.specs.Desks.{core_of, desk_of}
 use Rattle.cdrc_scripts.specs.Domains.{IsSettledDesk}
 use Rattle.cdrc_scripts.specs.Meaning.{IsHeapInRange, IsOpened}

@@ -1,6 +1,6 @@
 use Rattle.std.proofs.Common.{rules}
-use Rattle.line_words.specs.Words.{texts_of}
-use Rattle.script_lines.specs.Spelling.{SpellsCommand}
+use Rattle.line_machine.specs.line_words.Words.{texts_of}
+use Rattle.script_law.specs.script_lines.Spelling.{SpellsCommand}
 use Rattle.domain_desk.specs.Desks.{desk_of}
 use Rattle.cdrc_scripts.proofs.Taking.{command_taken, command_refused}
 use Rattle.cdrc_scripts.proofs.machine.take_command.Goals as goal

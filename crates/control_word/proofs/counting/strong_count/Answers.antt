@@ -1,6 +1,6 @@
 use Rattle.std.proofs.Common.{subst}
-use Rattle.core_events.specs.declared.outcome.Outcome.{Outcome}
-use Rattle.core_events.specs.declared.act.Act.TheVariants as act
+use Rattle.acquire_retire.specs.core_events.declared.outcome.Outcome.{Outcome}
+use Rattle.acquire_retire.specs.core_events.declared.act.Act.TheVariants as act
 use Rattle.acquire_retire.specs.Calls.{Steps}
 use Rattle.control_word.proofs.CountSteps.{counts_at_once, counts_by_mark}
 use Rattle.control_word.proofs.counting.strong_count.Goals as goal

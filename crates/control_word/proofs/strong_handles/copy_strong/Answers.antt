@@ -1,4 +1,4 @@
-use Rattle.core_events.specs.declared.view.CoreView.{CoreView}
+use Rattle.acquire_retire.specs.core_events.declared.view.CoreView.{CoreView}
 use Rattle.control_word.proofs.Owning.{some_more}
 use Rattle.std.proofs.Common.{ap, ◌∙◌, arith}
 use Rattle.control_word.proofs.Gaining.{counted, up}

@@ -1,8 +1,8 @@
-use Rattle.core_events.specs.declared.view.CoreView.{CoreView}
+use Rattle.acquire_retire.specs.core_events.declared.view.CoreView.{CoreView}
 use Rattle.control_word.proofs.Owning.{some_more}
 use Rattle.std.proofs.Common.{ap, ◌∙◌, arith, subst, sym}
-use Rattle.plain_state.specs.declared.slot.SlotId.{SlotId}
-use Rattle.core_events.specs.declared.act.Act.TheVariants as act
+use Rattle.counted_handles.specs.plain_state.declared.slot.SlotId.{SlotId}
+use Rattle.acquire_retire.specs.core_events.declared.act.Act.TheVariants as act
 use Rattle.acquire_retire.specs.Calls.{IsReady}
 use Rattle.control_word.proofs.Gaining.{counted, found_ended}
 use Rattle.control_word.proofs.upgrading.upgrade.Goals as goal

@@ -1,6 +1,6 @@
 use Rattle.std.proofs.Common.{ap, subst, sym}
-use Rattle.core_events.specs.declared.view.CoreView.{CoreView}
-use Rattle.core_events.specs.Steps.{HasRoom}
+use Rattle.acquire_retire.specs.core_events.declared.view.CoreView.{CoreView}
+use Rattle.acquire_retire.specs.core_events.Steps.{HasRoom}
 use Rattle.control_word.proofs.WeaklyDropping.{drop_freed, drop_left}
 use Rattle.control_word.proofs.weak_handles.drop_weak.Goals as goal
 

@@ -1,5 +1,5 @@
 use Rattle.std.proofs.Common.{ap}
-use Rattle.core_events.specs.declared.view.CoreView.{CoreView}
+use Rattle.acquire_retire.specs.core_events.declared.view.CoreView.{CoreView}
 use Rattle.control_word.proofs.Owning.{some_more}
 use Rattle.control_word.proofs.Gaining.{gains_weak}
 use Rattle.control_word.proofs.weak_handles.gain_weak.Goals as goal

@@ -1,6 +1,6 @@
 use Rattle.std.proofs.Common.{◌≡◌, subst}
 use Rattle.std.specs.Prelude.{IfOk}
-use Rattle.plain_state.specs.declared.slot.SlotId.{SlotId}
+use Rattle.counted_handles.specs.plain_state.declared.slot.SlotId.{SlotId}
 use Rattle.control_word.specs.Calls.{GainsWeak}
 use Rattle.control_word.proofs.weak_handles.weaken.Goals as goal
 

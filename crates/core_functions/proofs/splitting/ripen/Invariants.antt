@@ -1,7 +1,7 @@
 use Rattle.std.proofs.Common.{◌≡◌, ◌++◌, length, take, vec_capacity}
 use Rattle.std.specs.List.{filter}
 use Rattle.eject_scan.specs.Seen.{announced}
-use Rattle.plain_state.specs.Ejection.{ripens}
+use Rattle.core_events.specs.plain_state.Ejection.{ripens}
 use Rattle.core_functions.proofs.splitting.ripen.Given as goal
 
 abbrev pub invariant-loop-slot : goal.invariant-loop-slot

@@ -1,14 +1,14 @@
 use Rattle.linked_queue.specs.UnlessRipe.{next_unless}
-use Rattle.queue_law.specs.Nodes.{back_next}
-use Rattle.queue_law.specs.Lessons.{TellsNothing}
-use Rattle.retiring_stores.specs.Exchanging.{Stores}
-use Rattle.plain_state.specs.declared.act.EventPlace.TheVariants.{WeakField}
+use Rattle.linked_queue.specs.queue_law.Nodes.{back_next}
+use Rattle.linked_queue.specs.queue_law.Lessons.{TellsNothing}
+use Rattle.weak_part_calls.specs.retiring_stores.Exchanging.{Stores}
+use Rattle.weak_part_calls.specs.plain_state.declared.act.EventPlace.TheVariants.{WeakField}
 use Rattle.std.proofs.Common.{ap, ◌∙◌, subst, [], ◌∷◌, ◌++◌}
 use Rattle.std.specs.Prelude.{None, Some}
-use Rattle.plain_state.specs.declared.slot.SlotId.{SlotId}
-use Rattle.core_events.specs.Views.{without}
-use Rattle.queue_law.specs.declared.view.View.{View}
-use Rattle.part_calls.specs.Parts.{as_part, seen_by}
+use Rattle.weak_part_calls.specs.plain_state.declared.slot.SlotId.{SlotId}
+use Rattle.weak_part_calls.specs.core_events.Views.{without}
+use Rattle.linked_queue.specs.queue_law.declared.view.View.{View}
+use Rattle.weak_part_calls.specs.part_calls.Parts.{as_part, seen_by}
 use Rattle.double_link_queue.specs.Leaving.{LeavesBoth}
 use Rattle.double_link_queue.specs.Pushes.{backed_in}
 use Rattle.double_link_queue.proofs.Backs.{load_kept}

@@ -1,7 +1,7 @@
 use Rattle.std.proofs.Common.{refl}
-use Rattle.plain_state.specs.declared.act.EventPlace.TheVariants.{WeakField}
-use Rattle.part_calls.specs.Parts.{as_part, seen_by}
-use Rattle.queue_law.specs.Nodes.{back_next}
+use Rattle.weak_part_calls.specs.plain_state.declared.act.EventPlace.TheVariants.{WeakField}
+use Rattle.weak_part_calls.specs.part_calls.Parts.{as_part, seen_by}
+use Rattle.linked_queue.specs.queue_law.Nodes.{back_next}
 use Rattle.linked_queue.specs.UnlessRipe.{next_unless}
 use Rattle.linked_queue.proofs.Accepting.{kept_all, unless_kept}
 use Rattle.linked_queue.proofs.Owning.{owned_node}

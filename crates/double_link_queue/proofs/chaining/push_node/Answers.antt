@@ -1,9 +1,9 @@
 use Rattle.linked_queue.proofs.Linkings.{why_later}
 use Rattle.double_link_queue.specs.Steps.{Lands, LosesLast, LosesNode, TakesLast}
-use Rattle.plain_state.specs.declared.slot.SlotId.{SlotId}
+use Rattle.weak_part_calls.specs.plain_state.declared.slot.SlotId.{SlotId}
 use Rattle.std.proofs.Common.{refl, subst, arith, ◌∙◌}
-use Rattle.core_events.specs.Views.{without}
-use Rattle.part_calls.specs.Parts.{seen_by, as_part}
+use Rattle.weak_part_calls.specs.core_events.Views.{without}
+use Rattle.weak_part_calls.specs.part_calls.Parts.{seen_by, as_part}
 use Rattle.linked_queue.proofs.Leavings.{drop_leaves, drop_spent, drop_makes}
 use Rattle.double_link_queue.proofs.Owning.{both_of, gives_both, l_there, nothing_gives}
 use Rattle.double_link_queue.proofs.chaining.push_node.Goals as goal

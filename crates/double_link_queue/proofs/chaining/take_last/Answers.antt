@@ -1,16 +1,16 @@
 use Rattle.linked_queue.proofs.Linkings.{why_later, why_read}
 use Rattle.linked_queue.specs.PushLosses.{MissesTail}
 use Rattle.double_link_queue.specs.Steps.{LoadsTail, LosesLast, LosesTake}
-use Rattle.core_events.specs.declared.view.CoreView.{CoreView}
+use Rattle.weak_part_calls.specs.core_events.declared.view.CoreView.{CoreView}
 use Rattle.std.proofs.Common.{ap, sym, ◌∙◌, subst, [], ◌∷◌, ◌++◌, arith, inl, inr, refl}
 use Rattle.std.specs.Prelude.{None, Option}
-use Rattle.atomic_shared.specs.Places.{named}
-use Rattle.core_events.specs.Views.{without}
-use Rattle.core_law.proofs.Kit.{times_push}
-use Rattle.counted_handles.specs.Handles.{Handle}
-use Rattle.queue_law.specs.declared.view.View.{View}
-use Rattle.queue_law.specs.Pushes.{carried_item}
-use Rattle.part_calls.specs.Parts.{seen_by, as_part}
+use Rattle.weak_part_calls.specs.atomic_shared.Places.{named}
+use Rattle.weak_part_calls.specs.core_events.Views.{without}
+use Rattle.weak_part_calls.proofs.Below.core_law.Kit.{times_push}
+use Rattle.weak_part_calls.specs.counted_handles.Handles.{Handle}
+use Rattle.linked_queue.specs.queue_law.declared.view.View.{View}
+use Rattle.linked_queue.specs.queue_law.Pushes.{carried_item}
+use Rattle.weak_part_calls.specs.part_calls.Parts.{seen_by, as_part}
 use Rattle.linked_queue.specs.Leaving.{Leaves, with_found}
 use Rattle.linked_queue.proofs.Accepting.{may_still}
 use Rattle.linked_queue.proofs.Leavings.{drop_leaves, drop_spent}

@@ -3,11 +3,11 @@ use Rattle.linked_queue.proofs.Linkings.{why_later}
 use Rattle.double_link_queue.specs.Steps.{ExchangesTail, LosesExchange, LosesTake, MissesBack, TakesTail}
 use Rattle.std.proofs.Common.{refl, sym, ap, ◌∙◌, subst, arith, inl, inr}
 use Rattle.std.specs.Prelude.{IfOk, None}
-use Rattle.plain_state.specs.declared.slot.SlotId.{SlotId}
-use Rattle.core_events.specs.declared.view.CoreView.{CoreView}
-use Rattle.acquire_retire.proofs.Wholes.{then_ok}
-use Rattle.queue_law.specs.Pushes.{carried_item}
-use Rattle.part_calls.specs.Parts.{as_part, seen_by}
+use Rattle.weak_part_calls.specs.plain_state.declared.slot.SlotId.{SlotId}
+use Rattle.weak_part_calls.specs.core_events.declared.view.CoreView.{CoreView}
+use Rattle.weak_part_calls.proofs.Below.acquire_retire.Wholes.{then_ok}
+use Rattle.linked_queue.specs.queue_law.Pushes.{carried_item}
+use Rattle.weak_part_calls.specs.part_calls.Parts.{as_part, seen_by}
 use Rattle.linked_queue.proofs.Accepting.{may_still}
 use Rattle.linked_queue.proofs.Leavings.{then_err}
 use Rattle.double_link_queue.specs.Pushes.{CanExchange, IsInFlight, beside_back}

@@ -1,17 +1,17 @@
 use Rattle.std.proofs.Common.{rules, ◌≡◌, ℕ, ◌<◌, inr, refl, ap, sym, ◌∙◌, subst}
 use Rattle.std.specs.Prelude.{Some}
-use Rattle.plain_state.specs.declared.act.EventPlace.TheVariants.{Cell}
-use Rattle.plain_state.specs.declared.slot.SlotId.{SlotId}
-use Rattle.core_events.specs.Views.{without}
-use Rattle.core_events.specs.declared.shape.Shape.{Shape}
-use Rattle.counted_handles.specs.Handles.{Handle}
-use Rattle.acquire_retire.specs.Calls.{IsSameView, same_view}
-use Rattle.control_word.specs.Calls.{DropsStrong, GainsStrong, without_strong}
-use Rattle.control_word.specs.Moves.{KnowsStill}
-use Rattle.retiring_stores.specs.Exchanging.{LosesTo, Replaces}
-use Rattle.queue_law.specs.Lessons.{TellsNothing}
-use Rattle.queue_law.specs.Pushes.{carried_item, exchange_next}
-use Rattle.part_calls.specs.Parts.{as_part, seen_by}
+use Rattle.weak_part_calls.specs.plain_state.declared.act.EventPlace.TheVariants.{Cell}
+use Rattle.weak_part_calls.specs.plain_state.declared.slot.SlotId.{SlotId}
+use Rattle.weak_part_calls.specs.core_events.Views.{without}
+use Rattle.weak_part_calls.specs.core_events.declared.shape.Shape.{Shape}
+use Rattle.weak_part_calls.specs.counted_handles.Handles.{Handle}
+use Rattle.weak_part_calls.specs.acquire_retire.Calls.{IsSameView, same_view}
+use Rattle.weak_part_calls.specs.control_word.Calls.{DropsStrong, GainsStrong, without_strong}
+use Rattle.weak_part_calls.specs.control_word.Moves.{KnowsStill}
+use Rattle.weak_part_calls.specs.retiring_stores.Exchanging.{LosesTo, Replaces}
+use Rattle.linked_queue.specs.queue_law.Lessons.{TellsNothing}
+use Rattle.linked_queue.specs.queue_law.Pushes.{carried_item, exchange_next}
+use Rattle.weak_part_calls.specs.part_calls.Parts.{as_part, seen_by}
 use Rattle.linked_queue.specs.Leaving.{Leaves}
 use Rattle.linked_queue.proofs.Leavings.{exchange_leaves}
 use Rattle.double_link_queue.proofs.Accepting.{exchange_all}

@@ -1,11 +1,11 @@
-use Rattle.protected_loads.specs.References.{Loads}
-use Rattle.atomic_shared.specs.Places.{named}
-use Rattle.plain_state.specs.declared.act.EventPlace.TheVariants.{Cell}
+use Rattle.weak_part_calls.specs.protected_loads.References.{Loads}
+use Rattle.weak_part_calls.specs.atomic_shared.Places.{named}
+use Rattle.weak_part_calls.specs.plain_state.declared.act.EventPlace.TheVariants.{Cell}
 use Rattle.std.specs.Prelude.{IfOk}
-use Rattle.queue_law.specs.Lessons.{learn_next}
+use Rattle.linked_queue.specs.queue_law.Lessons.{learn_next}
 use Rattle.linked_queue.proofs.Accepting.{kept_all, learn_kept}
-use Rattle.part_calls.proofs.Seen.{rest_seen}
-use Rattle.part_calls.specs.Parts.{as_part, seen_by}
+use Rattle.weak_part_calls.proofs.Below.part_calls.Seen.{rest_seen}
+use Rattle.weak_part_calls.specs.part_calls.Parts.{as_part, seen_by}
 use Rattle.std.proofs.Common.{false, ap, subst}
 use Rattle.linked_queue.specs.Cells.{TailTells}
 use Rattle.linked_queue.specs.Queues.{ends_of}
@@ -13,10 +13,10 @@ use Rattle.linked_queue.specs.Pushes.{SeesTail}
 use Rattle.linked_queue.specs.PushLosses.{MissesTail}
 use Rattle.linked_queue.proofs.CellLoads.{cell_seen, cell_sights, cell_there, not_null}
 use Rattle.linked_queue.proofs.Nodes.{sees_tail}
-use Rattle.counted_handles.specs.declared.place.Place.TheVariants as place
+use Rattle.weak_part_calls.specs.counted_handles.declared.place.Place.TheVariants as place
 use Rattle.linked_queue.proofs.Leavings.{spent_still}
 use Rattle.linked_queue.proofs.Making.{load_makes}
-use Rattle.counted_handles.specs.declared.refusal.LoadError.TheVariants as unloaded
+use Rattle.weak_part_calls.specs.counted_handles.declared.refusal.LoadError.TheVariants as unloaded
 use Rattle.double_link_queue.proofs.exchanging.load_tail.Goals as goal
 
 pub returns : goal.returns

@@ -1,12 +1,12 @@
 use Rattle.linked_queue.proofs.Linkings.{why_later}
 use Rattle.double_link_queue.specs.Steps.{FindsBefore, HelpsAt, MissesBack}
-use Rattle.plain_state.specs.declared.slot.SlotId.{SlotId}
+use Rattle.weak_part_calls.specs.plain_state.declared.slot.SlotId.{SlotId}
 use Rattle.std.proofs.Common.{subst, inl, inr, refl, arith, ◌∙◌}
 use Rattle.std.specs.Prelude.{None, Option}
-use Rattle.atomic_shared.specs.Places.{named}
-use Rattle.core_events.specs.Views.{without}
-use Rattle.counted_handles.specs.Handles.{Handle}
-use Rattle.part_calls.specs.Parts.{seen_by, as_part}
+use Rattle.weak_part_calls.specs.atomic_shared.Places.{named}
+use Rattle.weak_part_calls.specs.core_events.Views.{without}
+use Rattle.weak_part_calls.specs.counted_handles.Handles.{Handle}
+use Rattle.weak_part_calls.specs.part_calls.Parts.{seen_by, as_part}
 use Rattle.linked_queue.specs.Leaving.{with_found}
 use Rattle.linked_queue.proofs.Leavings.{drop_leaves, drop_spent, drop_adds, drop_makes}
 use Rattle.double_link_queue.specs.Leaving.{LeavesBoth}

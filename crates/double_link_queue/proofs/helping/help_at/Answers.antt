@@ -1,11 +1,11 @@
 use Rattle.double_link_queue.specs.Steps.{SetsLink}
 use Rattle.std.proofs.Common.{true, refl, sym, ap, ◌∙◌, subst, ◌++◌, ◌∷◌, [], arith, inr}
 use Rattle.std.specs.Prelude.{None}
-use Rattle.plain_state.specs.declared.slot.SlotId.{SlotId}
-use Rattle.core_events.specs.Views.{without}
-use Rattle.core_law.proofs.Kit.{times_push}
-use Rattle.queue_law.specs.Pushes.{helped_view}
-use Rattle.part_calls.specs.Parts.{seen_by, as_part}
+use Rattle.weak_part_calls.specs.plain_state.declared.slot.SlotId.{SlotId}
+use Rattle.weak_part_calls.specs.core_events.Views.{without}
+use Rattle.weak_part_calls.proofs.Below.core_law.Kit.{times_push}
+use Rattle.linked_queue.specs.queue_law.Pushes.{helped_view}
+use Rattle.weak_part_calls.specs.part_calls.Parts.{seen_by, as_part}
 use Rattle.linked_queue.specs.Leaving.{Leaves}
 use Rattle.linked_queue.proofs.Leavings.{copy_leaves, leaves_same}
 use Rattle.linked_queue.proofs.Owning.{through}

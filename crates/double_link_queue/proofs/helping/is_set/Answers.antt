@@ -1,5 +1,5 @@
-use Rattle.part_calls.specs.Parts.{as_part, seen_by}
-use Rattle.queue_law.specs.Lessons.{set_next}
+use Rattle.weak_part_calls.specs.part_calls.Parts.{as_part, seen_by}
+use Rattle.linked_queue.specs.queue_law.Lessons.{set_next}
 use Rattle.linked_queue.proofs.Accepting.{kept_all}
 use Rattle.double_link_queue.proofs.Accepting.{set_kept}
 use Rattle.double_link_queue.proofs.Helps.{set_before, set_notes, set_ready}

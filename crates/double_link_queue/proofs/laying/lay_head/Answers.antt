@@ -1,9 +1,9 @@
 use Rattle.std.proofs.Common.{refl, inl}
-use Rattle.queue_law.specs.Opening.{lay_head_next}
+use Rattle.linked_queue.specs.queue_law.Opening.{lay_head_next}
 use Rattle.linked_queue.proofs.Accepting.{kept_all}
-use Rattle.part_calls.specs.Parts.{seen_by}
+use Rattle.weak_part_calls.specs.part_calls.Parts.{seen_by}
 use Rattle.std.specs.Prelude.{Some}
-use Rattle.plain_state.specs.declared.act.EventPlace.TheVariants.{Cell}
+use Rattle.weak_part_calls.specs.plain_state.declared.act.EventPlace.TheVariants.{Cell}
 use Rattle.linked_queue.proofs.Leavings.{exchange_leaves}
 use Rattle.double_link_queue.proofs.laying.lay_head.Goals as goal
 

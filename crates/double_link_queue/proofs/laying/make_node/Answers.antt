@@ -1,11 +1,11 @@
 use Rattle.std.proofs.Common.{refl, ap}
-use Rattle.queue_law.specs.Nodes.{make_next}
+use Rattle.linked_queue.specs.queue_law.Nodes.{make_next}
 use Rattle.linked_queue.proofs.Accepting.{kept_all}
-use Rattle.part_calls.specs.Parts.{as_part, seen_by}
+use Rattle.weak_part_calls.specs.part_calls.Parts.{as_part, seen_by}
 use Rattle.linked_queue.specs.Nodes.{HasNode}
 use Rattle.linked_queue.proofs.NewNodes.{made_node, node_ready}
 use Rattle.linked_queue.proofs.Leavings.{then_ok_both, spent_still}
-use Rattle.slot_store.specs.declared.making.MakeError.TheVariants as refused
+use Rattle.weak_part_calls.specs.slot_store.declared.making.MakeError.TheVariants as refused
 use Rattle.double_link_queue.proofs.laying.make_node.Goals as goal
 
 pub make-requires-clause-deed : goal.make-requires-clause-deed

@@ -1,8 +1,8 @@
 use Rattle.std.proofs.Common.{[], ◌∷◌, ◌++◌, ap, sym, ◌∙◌, subst}
 use Rattle.std.specs.Prelude.{Err}
-use Rattle.plain_state.specs.declared.slot.SlotId.{SlotId}
-use Rattle.part_calls.specs.Parts.{as_part, seen_by}
-use Rattle.queue_law.specs.Lessons.{ended_next}
+use Rattle.weak_part_calls.specs.plain_state.declared.slot.SlotId.{SlotId}
+use Rattle.weak_part_calls.specs.part_calls.Parts.{as_part, seen_by}
+use Rattle.linked_queue.specs.queue_law.Lessons.{ended_next}
 use Rattle.linked_queue.proofs.Accepting.{kept_all}
 use Rattle.double_link_queue.specs.Leaving.{LeavesBoth}
 use Rattle.double_link_queue.specs.Pushes.{SeesBefore}

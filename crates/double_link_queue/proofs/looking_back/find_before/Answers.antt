@@ -1,15 +1,15 @@
-use Rattle.atomic_shared.specs.Places.{named as strongly_named}
+use Rattle.weak_part_calls.specs.atomic_shared.Places.{named as strongly_named}
 use Rattle.double_link_queue.specs.Steps.{FindsBefore, LoadsBack, MissesBack, UpgradesBack}
-use Rattle.core_events.specs.declared.view.CoreView.{CoreView}
+use Rattle.weak_part_calls.specs.core_events.declared.view.CoreView.{CoreView}
 use Rattle.linked_queue.specs.Pushes.{IsWhyUnlinked}
 use Rattle.linked_queue.proofs.Linkings.{why_later, why_read}
 use Rattle.linked_queue.proofs.Leavings.{then_err}
-use Rattle.acquire_retire.proofs.Wholes.{then_ok}
+use Rattle.weak_part_calls.proofs.Below.acquire_retire.Wholes.{then_ok}
 use Rattle.std.proofs.Common.{subst, inl, inr, refl, ap}
 use Rattle.std.specs.Prelude.{Option}
-use Rattle.atomic_weak.specs.Places.{named}
-use Rattle.counted_handles.specs.Handles.{Handle}
-use Rattle.part_calls.specs.Parts.{seen_by, as_part}
+use Rattle.weak_part_calls.specs.atomic_weak.Places.{named}
+use Rattle.weak_part_calls.specs.counted_handles.Handles.{Handle}
+use Rattle.weak_part_calls.specs.part_calls.Parts.{seen_by, as_part}
 use Rattle.linked_queue.specs.Leaving.{found_by, with_found}
 use Rattle.double_link_queue.specs.Leaving.{LeavesBoth}
 use Rattle.double_link_queue.proofs.Owning.{weak_through}

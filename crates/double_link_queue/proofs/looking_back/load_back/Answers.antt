@@ -1,12 +1,12 @@
 use Rattle.std.proofs.Common.{refl, ap}
-use Rattle.part_calls.proofs.Seen.{rest_seen}
-use Rattle.part_calls.specs.Parts.{as_part, seen_by}
-use Rattle.queue_law.specs.Lessons.{before_next}
+use Rattle.weak_part_calls.proofs.Below.part_calls.Seen.{rest_seen}
+use Rattle.weak_part_calls.specs.part_calls.Parts.{as_part, seen_by}
+use Rattle.linked_queue.specs.queue_law.Lessons.{before_next}
 use Rattle.linked_queue.proofs.Accepting.{kept_all}
 use Rattle.double_link_queue.proofs.LooksBack.{before_ready, looked_back}
 use Rattle.double_link_queue.proofs.Making.{weak_load_makes}
 use Rattle.linked_queue.proofs.Leavings.{spent_still}
-use Rattle.counted_handles.specs.declared.refusal.LoadError.TheVariants as unloaded
+use Rattle.weak_part_calls.specs.counted_handles.declared.refusal.LoadError.TheVariants as unloaded
 use Rattle.double_link_queue.proofs.looking_back.load_back.Goals as goal
 
 pub try_load_weak-requires-clause-deed : goal.try_load_weak-requires-clause-deed

@@ -1,10 +1,10 @@
-use Rattle.atomic_shared.specs.Places.{named}
+use Rattle.weak_part_calls.specs.atomic_shared.Places.{named}
 use Rattle.double_link_queue.specs.Steps.{CountsBefore, UpgradesBack}
-use Rattle.acquire_retire.proofs.Wholes.{then_ok}
+use Rattle.weak_part_calls.proofs.Below.acquire_retire.Wholes.{then_ok}
 use Rattle.std.proofs.Common.{ap, ◌∙◌, ◌≡◌}
-use Rattle.core_events.specs.Views.{without}
-use Rattle.queue_law.specs.declared.view.View.{View}
-use Rattle.part_calls.specs.Parts.{as_part, seen_by}
+use Rattle.weak_part_calls.specs.core_events.Views.{without}
+use Rattle.linked_queue.specs.queue_law.declared.view.View.{View}
+use Rattle.weak_part_calls.specs.part_calls.Parts.{as_part, seen_by}
 use Rattle.linked_queue.specs.Leaving.{found_by}
 use Rattle.linked_queue.specs.Queues.{beside_eyes}
 use Rattle.double_link_queue.specs.Pushes.{SeesBefore}
@@ -14,8 +14,8 @@ use Rattle.double_link_queue.proofs.Owning.{found_gives}
 use Rattle.double_link_queue.proofs.Upgrades.{before_left}
 use Rattle.double_link_queue.proofs.Whys.{found_then}
 use Rattle.linked_queue.proofs.Leavings.{then_err}
-use Rattle.control_word.specs.Resting.{IsSpent}
-use Rattle.counted_handles.specs.declared.refusal.LoadError.TheVariants as unloaded
+use Rattle.weak_part_calls.specs.control_word.Resting.{IsSpent}
+use Rattle.weak_part_calls.specs.counted_handles.declared.refusal.LoadError.TheVariants as unloaded
 use Rattle.double_link_queue.proofs.looking_back.upgrade_back.Goals as goal
 
 pub returns-clause-sees : goal.returns-clause-sees

@@ -1,16 +1,16 @@
-use Rattle.part_calls.specs.Parts.{as_part, seen_by}
+use Rattle.weak_part_calls.specs.part_calls.Parts.{as_part, seen_by}
 use Rattle.std.proofs.Common.{◌<◌, [], ◌∷◌, ◌++◌, refl, ap, sym, ◌∙◌, subst, arith}
 use Rattle.std.specs.Prelude.{None, Some}
-use Rattle.plain_state.specs.declared.act.EventPlace.TheVariants.{Field}
-use Rattle.retiring_stores.specs.Exchanging.{Stores}
-use Rattle.queue_law.specs.Lessons.{TellsNothing}
-use Rattle.queue_law.specs.Nodes.{carry_next}
+use Rattle.weak_part_calls.specs.plain_state.declared.act.EventPlace.TheVariants.{Field}
+use Rattle.weak_part_calls.specs.retiring_stores.Exchanging.{Stores}
+use Rattle.linked_queue.specs.queue_law.Lessons.{TellsNothing}
+use Rattle.linked_queue.specs.queue_law.Nodes.{carry_next}
 use Rattle.linked_queue.specs.UnlessRipe.{next_unless}
-use Rattle.plain_state.specs.declared.slot.SlotId.{SlotId}
-use Rattle.plain_state.specs.Lists.{times}
-use Rattle.core_events.specs.declared.view.CoreView.{CoreView}
-use Rattle.core_events.specs.Views.{without}
-use Rattle.core_law.proofs.Kit.{times_push}
+use Rattle.weak_part_calls.specs.plain_state.declared.slot.SlotId.{SlotId}
+use Rattle.weak_part_calls.specs.plain_state.Lists.{times}
+use Rattle.weak_part_calls.specs.core_events.declared.view.CoreView.{CoreView}
+use Rattle.weak_part_calls.specs.core_events.Views.{without}
+use Rattle.weak_part_calls.proofs.Below.core_law.Kit.{times_push}
 use Rattle.linked_queue.specs.Leaving.{Leaves}
 use Rattle.linked_queue.specs.Nodes.{HasNode}
 use Rattle.linked_queue.specs.Pops.{item_in}
@@ -18,9 +18,9 @@ use Rattle.linked_queue.proofs.Leavings.{copy_leaves, drop_leaves, leaves_same, 
 use Rattle.linked_queue.proofs.Owning.{has_owned, still_owned, through}
 use Rattle.linked_queue.proofs.Poppings.{item_still, leaves_on}
 use Rattle.linked_queue.proofs.Pushings.{left_of, node_still}
-use Rattle.acquire_retire.specs.Seats.{SeatState}
-use Rattle.control_word.specs.Resting.{IsSpent}
-use Rattle.queue_law.specs.declared.view.View.{View}
+use Rattle.weak_part_calls.specs.acquire_retire.Seats.{SeatState}
+use Rattle.weak_part_calls.specs.control_word.Resting.{IsSpent}
+use Rattle.linked_queue.specs.queue_law.declared.view.View.{View}
 use Rattle.double_link_queue.proofs.pushing.load_node.Goals as goal
 
 pub copy_strong-requires-clause-owned : goal.copy_strong-requires-clause-owned

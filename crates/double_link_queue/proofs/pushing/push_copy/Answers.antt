@@ -1,10 +1,10 @@
 use Rattle.linked_queue.specs.Pushes.{IsWhyUnlinked}
 use Rattle.double_link_queue.specs.Steps.{LosesNode}
-use Rattle.counted_handles.specs.declared.refusal.LoadError.{LoadError}
+use Rattle.weak_part_calls.specs.counted_handles.declared.refusal.LoadError.{LoadError}
 use Rattle.std.proofs.Common.{refl, sym, ◌++◌, ◌∷◌, [], subst}
 use Rattle.std.specs.Prelude.{None}
-use Rattle.queue_law.specs.Pushes.{carried_item}
-use Rattle.part_calls.specs.Parts.{seen_by, as_part}
+use Rattle.linked_queue.specs.queue_law.Pushes.{carried_item}
+use Rattle.weak_part_calls.specs.part_calls.Parts.{seen_by, as_part}
 use Rattle.linked_queue.specs.Pops.{item_in}
 use Rattle.linked_queue.proofs.Accepting.{may_still}
 use Rattle.double_link_queue.proofs.Leavings.{both_same}

@@ -1,6 +1,6 @@
 use Rattle.std.proofs.Common.{ap, ◌∙◌, arith}
-use Rattle.part_calls.specs.Parts.{seen_by}
-use Rattle.core_events.specs.Views.{without}
+use Rattle.weak_part_calls.specs.part_calls.Parts.{seen_by}
+use Rattle.weak_part_calls.specs.core_events.Views.{without}
 use Rattle.linked_queue.specs.Queues.{deeds_in}
 use Rattle.linked_queue.proofs.Leavings.{drop_leaves, drop_makes}
 use Rattle.double_link_queue.proofs.Owning.{both_of, nothing_gives}

@@ -1,9 +1,9 @@
 use Rattle.double_link_queue.specs.Waits.{LosesAnyNode, TakesAtLast}
 use Rattle.double_link_queue.specs.Steps.{Lands}
-use Rattle.plain_state.specs.declared.slot.SlotId.{SlotId}
+use Rattle.weak_part_calls.specs.plain_state.declared.slot.SlotId.{SlotId}
 use Rattle.std.proofs.Common.{subst, ◌∙◌}
-use Rattle.core_events.specs.Views.{without}
-use Rattle.part_calls.specs.Parts.{seen_by, as_part}
+use Rattle.weak_part_calls.specs.core_events.Views.{without}
+use Rattle.weak_part_calls.specs.part_calls.Parts.{seen_by, as_part}
 use Rattle.linked_queue.proofs.Leavings.{drop_leaves, drop_spent, drop_makes}
 use Rattle.linked_queue.proofs.Shortages.{short_then}
 use Rattle.double_link_queue.proofs.Owning.{both_of, gives_both, l_there, nothing_gives}

@@ -1,9 +1,9 @@
 use Rattle.std.specs.Prelude.{◌≡◌}
-use Rattle.core_events.specs.Steps.{HasRoom}
-use Rattle.control_word.specs.Resting.{IsAtRest}
-use Rattle.queue_law.specs.Pushes.{carried_item}
-use Rattle.queue_law.specs.Views.{first_view}
-use Rattle.part_calls.specs.Parts.{HasBeside, as_part, seen_by}
+use Rattle.weak_part_calls.specs.core_events.Steps.{HasRoom}
+use Rattle.weak_part_calls.specs.control_word.Resting.{IsAtRest}
+use Rattle.linked_queue.specs.queue_law.Pushes.{carried_item}
+use Rattle.linked_queue.specs.queue_law.Views.{first_view}
+use Rattle.weak_part_calls.specs.part_calls.Parts.{HasBeside, as_part, seen_by}
 use Rattle.linked_queue.specs.Pushes.{HasLoad}
 use Rattle.linked_queue.specs.Queues.{IsAttached}
 use Rattle.linked_queue.proofs.Shortages.{HasTried}

@@ -1,10 +1,10 @@
 use Rattle.std.proofs.Common.{refl, inl}
-use Rattle.part_calls.specs.Parts.{as_part, seen_by}
+use Rattle.weak_part_calls.specs.part_calls.Parts.{as_part, seen_by}
 use Rattle.linked_queue.specs.Queues.{ends_of}
-use Rattle.queue_law.specs.Opening.{shut_head_next}
+use Rattle.linked_queue.specs.queue_law.Opening.{shut_head_next}
 use Rattle.linked_queue.proofs.Accepting.{kept_all}
 use Rattle.std.specs.Prelude.{None}
-use Rattle.plain_state.specs.declared.act.EventPlace.TheVariants.{Cell}
+use Rattle.weak_part_calls.specs.plain_state.declared.act.EventPlace.TheVariants.{Cell}
 use Rattle.linked_queue.proofs.Leavings.{exchange_leaves}
 use Rattle.double_link_queue.proofs.shutting.shut_head.Goals as goal
 

@@ -1,8 +1,8 @@
 use Rattle.std.specs.Prelude.{remove}
 use Rattle.std.proofs.Common.{◌≡◌, ◌∙◌, sym, ap, ◌<◌, length, rules}
 use Rattle.std.proofs.lemmas.List.{get_or_default}
-use Rattle.plain_state.specs.declared.slot.SlotId.{SlotId}
-use Rattle.core_events.specs.Views.{without}
+use Rattle.core_functions.specs.plain_state.declared.slot.SlotId.{SlotId}
+use Rattle.core_functions.specs.core_events.Views.{without}
 use Rattle.core_functions.proofs.Slots.{past, without_at}
 use Rattle.dying_slots.proofs.dying.take_first.Goals as goal
 

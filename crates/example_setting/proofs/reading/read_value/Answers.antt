@@ -1,4 +1,4 @@
-use Rattle.plain_state.specs.declared.act.EventPlace.TheVariants.{Cell}
+use Rattle.cdrc.specs.plain_state.declared.act.EventPlace.TheVariants.{Cell}
 use Rattle.example_setting.specs.Deeds.{ReadTells}
 use Rattle.example_setting.proofs.Readings.{all_reads, stored_still}
 use Rattle.example_setting.proofs.reading.read_value.Goals as goal

@@ -1,11 +1,11 @@
 use Rattle.std.proofs.Common.{◌∙◌, ap, Some}
-use Rattle.plain_state.specs.declared.slot.Kind.TheVariants.{Strong}
-use Rattle.plain_state.specs.Lists.{times}
-use Rattle.core_events.specs.declared.view.CoreView.{CoreView}
-use Rattle.core_events.specs.Steps.{without_given}
+use Rattle.cdrc.specs.plain_state.declared.slot.Kind.TheVariants.{Strong}
+use Rattle.cdrc.specs.plain_state.Lists.{times}
+use Rattle.cdrc.specs.core_events.declared.view.CoreView.{CoreView}
+use Rattle.cdrc.specs.core_events.Steps.{without_given}
 use Rattle.example_setting.proofs.Storings.{gives_made, knows_given}
 use Rattle.example_setting.specs.Setting.{owns}
-use Rattle.slot_store.proofs.Sparing.{make_is_spared}
+use Rattle.cdrc.proofs.Below.slot_store.Sparing.{make_is_spared}
 use Rattle.example_setting.proofs.storing.store_value.Goals as goal
 
 pub make-requires-clause-deed : goal.make-requires-clause-deed

@@ -1,7 +1,7 @@
 use Rattle.std.proofs.Common.{◌+◌, refl, Some}
-use Rattle.plain_state.specs.declared.act.EventPlace.TheVariants.{Cell}
-use Rattle.atomic_shared.specs.Places.{named}
-use Rattle.retiring_stores.specs.Exchanging.{LosesTo}
+use Rattle.cdrc.specs.plain_state.declared.act.EventPlace.TheVariants.{Cell}
+use Rattle.cdrc.specs.atomic_shared.Places.{named}
+use Rattle.cdrc.specs.retiring_stores.Exchanging.{LosesTo}
 use Rattle.example_stack.specs.Deeds.{TellsNothing, pop_next}
 use Rattle.example_stack.specs.Calls.{Changes}
 use Rattle.example_stack.proofs.Takes.{lost_changes, then_err}

@@ -1,11 +1,11 @@
 use Rattle.std.proofs.Common.{◌+◌, ◌<◌, refl, sym, ap, subst, ◌∙◌, arith}
-use Rattle.plain_state.specs.declared.slot.SlotId.{SlotId}
-use Rattle.plain_state.specs.declared.slot.Kind.TheVariants.{Strong}
-use Rattle.plain_state.specs.Lists.{times}
-use Rattle.plain_protocol.specs.Owns.{Object}
-use Rattle.core_events.specs.Steps.{CanGive, without_given}
-use Rattle.atomic_shared.specs.Places.{named}
-use Rattle.domain_rule.specs.Views.{object_in}
+use Rattle.cdrc.specs.plain_state.declared.slot.SlotId.{SlotId}
+use Rattle.cdrc.specs.plain_state.declared.slot.Kind.TheVariants.{Strong}
+use Rattle.cdrc.specs.plain_state.Lists.{times}
+use Rattle.cdrc.specs.plain_protocol.Owns.{Object}
+use Rattle.cdrc.specs.core_events.Steps.{CanGive, without_given}
+use Rattle.cdrc.specs.atomic_shared.Places.{named}
+use Rattle.cdrc.specs.domain_rule.Views.{object_in}
 use Rattle.example_stack.specs.Calls.{Changes}
 use Rattle.example_stack.proofs.Takes.{can_give, handle_node, has_still, known_since, node_again, owns_still, pops}
 use Rattle.example_stack.proofs.popping.try_pop.Goals as goal

@@ -1,5 +1,5 @@
 use Rattle.std.specs.Prelude.{Some}
-use Rattle.plain_state.specs.declared.act.EventPlace.TheVariants.{Cell}
+use Rattle.cdrc.specs.plain_state.declared.act.EventPlace.TheVariants.{Cell}
 use Rattle.example_stack.specs.Deeds.{push_next}
 use Rattle.example_stack.proofs.Takes.{lost_changes}
 use Rattle.example_stack.proofs.pushing.put_on.Goals as goal

@@ -1,11 +1,11 @@
 use Rattle.std.proofs.Common.{◌≡◌, ◌<◌, [], ◌∷◌, ◌++◌, refl, sym, ap, subst, ◌∙◌}
-use Rattle.plain_state.specs.Lists.{times}
-use Rattle.plain_protocol.specs.Owns.{Object}
-use Rattle.acquire_retire.proofs.Wholes.{then_ok}
-use Rattle.atomic_shared.specs.Places.{named}
-use Rattle.domain_rule.specs.Views.{object_in}
+use Rattle.cdrc.specs.plain_state.Lists.{times}
+use Rattle.cdrc.specs.plain_protocol.Owns.{Object}
+use Rattle.cdrc.proofs.Below.acquire_retire.Wholes.{then_ok}
+use Rattle.cdrc.specs.atomic_shared.Places.{named}
+use Rattle.cdrc.specs.domain_rule.Views.{object_in}
 use Rattle.example_stack.specs.Views.{View}
-use Rattle.control_word.specs.Resting.{IsSpent}
+use Rattle.cdrc.specs.control_word.Resting.{IsSpent}
 use Rattle.example_stack.specs.Calls.{IsWhy, pushed_too}
 use Rattle.example_stack.proofs.Takes.{can_give, has_still, known_always, node_again, pushes, then_err, why_as}
 use Rattle.example_stack.proofs.pushing.try_push.Goals as goal

@@ -1,5 +1,5 @@
 use Rattle.std.proofs.Common.{◌<◌}
-use Rattle.plain_state.specs.declared.slot.SlotId.{SlotId}
+use Rattle.deleter.specs.plain_state.declared.slot.SlotId.{SlotId}
 use Rattle.heap_audit.specs.Heaps.{ObeysAt}
 use Rattle.heap_audit.proofs.obeying.lawful.Given as goal
 

@@ -1,8 +1,8 @@
 use Rattle.std.proofs.Common.{rules, count_by, ap, ◌∙◌, arith}
 use Rattle.std.proofs.lemmas.List.{get_or_read}
-use Rattle.plain_state.specs.declared.slot.Kind.TheVariants.{Strong}
-use Rattle.plain_state.specs.Images.{free_image}
-use Rattle.plain_state.specs.Lists.{entry_times}
+use Rattle.deleter.specs.plain_state.declared.slot.Kind.TheVariants.{Strong}
+use Rattle.deleter.specs.plain_state.Images.{free_image}
+use Rattle.deleter.specs.plain_state.Lists.{entry_times}
 use Rattle.heap_audit.specs.Heaps.{names, slot}
 use Rattle.heap_audit.proofs.Lawfulness.{bare_decides, entered_obeys_not, live_decides}
 use Rattle.heap_audit.proofs.obeying.obeys.Goals as goal

@@ -1,6 +1,6 @@
 use Rattle.std.proofs.Common.{◌<◌, length, sym, subst, arith}
 use Rattle.std.proofs.lemmas.List.{get_or_read}
-use Rattle.plain_state.specs.Images.{free_image}
+use Rattle.deleter.specs.plain_state.Images.{free_image}
 use Rattle.heap_audit.specs.Heaps.{slot}
 use Rattle.heap_audit.proofs.Marking.{Marked, marked_within}
 use Rattle.heap_audit.proofs.Spreading.{spread_step, spread_all}

@@ -1,5 +1,5 @@
 use Rattle.std.proofs.Common.{◌<◌, List, length, All, sym, ◌∙◌, subst, arith}
-use Rattle.plain_state.specs.declared.slot.SlotId.{SlotId}
+use Rattle.deleter.specs.plain_state.declared.slot.SlotId.{SlotId}
 use Rattle.heap_audit.specs.Tables.{AreHolders, TurnsRound}
 use Rattle.heap_audit.proofs.Searching.{is_held, leads_on_held, leads_within, all_within, found}
 use Rattle.heap_audit.proofs.search.find_walk.Goals as goal

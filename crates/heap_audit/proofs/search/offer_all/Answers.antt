@@ -1,7 +1,7 @@
 use Rattle.std.proofs.Common.{◌+◌, length, sym, ◌∙◌, subst, arith}
 use Rattle.std.proofs.lemmas.Bool.{false≢true}
 use Rattle.std.proofs.lemmas.List.{get_or_read}
-use Rattle.plain_state.specs.Images.{free_image}
+use Rattle.deleter.specs.plain_state.Images.{free_image}
 use Rattle.heap_audit.specs.Heaps.{slot}
 use Rattle.heap_audit.specs.Reached.{IsUnreached}
 use Rattle.heap_audit.proofs.Offering.{AreOffered, offered_none, offered_within, offered_skip, offered_more, offered_all}

@@ -1,7 +1,7 @@
 use Rattle.std.proofs.Common.{◌+◌, ◌<◌, ◌≤◌, ◌^◌, Some, ap, length, subst, sym, ◌∙◌, arith}
 use Rattle.std.proofs.lemmas.Bool.{false≢true}
-use Rattle.plain_state.specs.declared.image.SlotImage.{SlotImage}
-use Rattle.plain_state.specs.declared.slot.SlotId.{SlotId}
+use Rattle.deleter.specs.plain_state.declared.image.SlotImage.{SlotImage}
+use Rattle.deleter.specs.plain_state.declared.slot.SlotId.{SlotId}
 use Rattle.heap_audit.proofs.Adding.{IsCounted, IsWeighed, one_live, one_other, one_reached, one_unreached}
 use Rattle.heap_audit.proofs.Weights.{not_live}
 use Rattle.heap_audit.proofs.summing.sum_up.Goals as goal

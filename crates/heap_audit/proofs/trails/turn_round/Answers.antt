@@ -1,5 +1,5 @@
 use Rattle.std.proofs.Common.{List, ◌++◌, reverse, ap, ◌∙◌}
-use Rattle.plain_state.specs.declared.slot.SlotId.{SlotId}
+use Rattle.deleter.specs.plain_state.declared.slot.SlotId.{SlotId}
 use Rattle.heap_audit.proofs.Turning.{turns_round}
 use Rattle.heap_audit.proofs.trails.turn_round.Goals as goal
 

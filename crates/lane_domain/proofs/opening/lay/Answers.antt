@@ -1,8 +1,8 @@
 use Rattle.std.proofs.Common.{◌<◌, OnErr, ap, subst, sym, ◌∙◌}
 use Rattle.std.proofs.lemmas.Result.{err_from_is_err_and}
-use Rattle.core_events.specs.declared.shape.Shape.{Shape}
-use Rattle.claim_law.specs.Claims.{makes_given}
-use Rattle.queue_law.specs.declared.view.Form.{Form}
+use Rattle.lane_files.specs.core_events.declared.shape.Shape.{Shape}
+use Rattle.lane_files.specs.claim_law.Claims.{makes_given}
+use Rattle.lane_files.specs.queue_law.declared.view.Form.{Form}
 use Rattle.lane_domain.specs.Opened.{HasOnlyLaid}
 use Rattle.lane_domain.proofs.Laid.{few_slots_by, laid_ready, only_laid, same_form}
 use Rattle.lane_domain.proofs.opening.lay.Goals as goal

@@ -1,5 +1,5 @@
 use Rattle.std.proofs.Common.{◌+◌, ◌<◌, ap, subst, arith}
-use Rattle.cdrc_text.specs.Text.{slots_of_word}
+use Rattle.lane_files.specs.cdrc_text.Text.{slots_of_word}
 use Rattle.lane_domain.proofs.Limits.{one_part, parts_so_far}
 use Rattle.lane_domain.proofs.sizes.count_parts.Goals as goal
 

@@ -1,6 +1,6 @@
 use Rattle.std.proofs.Common.{◌≡◌}
 use Rattle.std.specs.Prelude.{sum_by, take}
-use Rattle.cdrc_text.specs.Text.{slots_of_word}
+use Rattle.lane_files.specs.cdrc_text.Text.{slots_of_word}
 use Rattle.lane_files.specs.Files.{pieces_in}
 use Rattle.lane_domain.proofs.sizes.count_parts.Given as goal
 

@@ -1,6 +1,6 @@
 use Rattle.std.proofs.Common.{◌≡◌, ◌+◌, sym, ap, ◌∙◌, arith}
 use Rattle.std.specs.Prelude.{length}
-use Rattle.cdrc_text.specs.Fold.{File}
+use Rattle.lane_files.specs.cdrc_text.Fold.{File}
 use Rattle.lane_files.specs.Work.{files_in}
 use Rattle.lane_files.proofs.Pieces.{pieces_many}
 use Rattle.lane_domain.proofs.Limits.{pieces_upto}

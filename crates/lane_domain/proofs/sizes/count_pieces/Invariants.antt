@@ -1,6 +1,6 @@
 use Rattle.std.proofs.Common.{◌≡◌}
 use Rattle.std.specs.Prelude.{length}
-use Rattle.cdrc_text.specs.Fold.{File}
+use Rattle.lane_files.specs.cdrc_text.Fold.{File}
 use Rattle.lane_domain.proofs.Sums.{of_tickets}
 use Rattle.lane_domain.proofs.sizes.count_pieces.Given as goal
 

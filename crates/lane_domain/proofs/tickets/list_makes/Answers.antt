@@ -1,6 +1,6 @@
 use Rattle.std.proofs.Common.{◌+◌, ap, arith}
 use Rattle.std.specs.Prelude.{length}
-use Rattle.cdrc_text.specs.Fold.{File}
+use Rattle.lane_files.specs.cdrc_text.Fold.{File}
 use Rattle.lane_files.proofs.Pieces.{pieces_many}
 use Rattle.lane_domain.specs.Sizes.{makes_of, slots_of_words}
 use Rattle.lane_domain.proofs.Limits.{parts_few}

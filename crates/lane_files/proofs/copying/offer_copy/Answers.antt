@@ -1,6 +1,6 @@
 use Rattle.std.proofs.Common.{[], inr, refl, ap, subst, sym, arith}
-use Rattle.counted_handles.specs.Handles.{Handle}
-use Rattle.words_law.specs.Views.{View}
+use Rattle.control_word.specs.counted_handles.Handles.{Handle}
+use Rattle.words_protocol.specs.words_law.Views.{View}
 use Rattle.lane_files.specs.Passed.{Counts}
 use Rattle.lane_files.proofs.Copied.{back_owns, copy_counts, copy_interns, copy_known, copy_owns, copy_ready, copy_stays, owns_copy, copy_makes, copy_adds}
 use Rattle.lane_files.proofs.PiecesCounted.{counts_none}

@@ -2,7 +2,7 @@ use Rattle.std.proofs.Common.{ℕ, ◌<◌, ◌≤◌, List, refl, sym, ap, subs
 use Rattle.std.proofs.lemmas.List.{take_more}
 use Rattle.std.proofs.lemmas.Result.{err_from_is_err_and}
 use Rattle.std.specs.Prelude.{length, slice_index_or, take, []}
-use Rattle.cdrc_text.specs.Text.{slots_of_word}
+use Rattle.words_protocol.specs.cdrc_text.Text.{slots_of_word}
 use Rattle.lane_files.specs.PieceMakes.{LacksMake}
 use Rattle.lane_files.specs.Counting.{IsWhyStopped}
 use Rattle.lane_files.specs.Files.{pieces_in}

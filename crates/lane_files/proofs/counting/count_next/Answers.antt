@@ -1,7 +1,7 @@
 use Rattle.std.proofs.Common.{refl, sym, subst, [], ◌∷◌, arith}
 use Rattle.std.proofs.lemmas.Result.{err_from_is_err_and}
 use Rattle.std.specs.Prelude.{cond}
-use Rattle.words_law.specs.Views.{View}
+use Rattle.words_protocol.specs.words_law.Views.{View}
 use Rattle.lane_files.specs.Passed.{Takes}
 use Rattle.lane_files.proofs.SeatsKept.{owns_back}
 use Rattle.lane_files.proofs.Nexts.{counts_next}

@@ -2,9 +2,9 @@ use Rattle.std.proofs.Common.{List, refl, sym, ap, subst, ◌∙◌, arith}
 use Rattle.std.specs.Prelude.{drop, take}
 use Rattle.std.proofs.lemmas.List.{drop_at, take_at}
 use Rattle.std.proofs.lemmas.Result.{err_from_is_err_and}
-use Rattle.counted_handles.specs.Handles.{Handle}
-use Rattle.core_law.proofs.Kit.{times_append}
-use Rattle.plain_state.specs.Lists.{times}
+use Rattle.control_word.specs.counted_handles.Handles.{Handle}
+use Rattle.control_word.proofs.Below.core_law.Kit.{times_append}
+use Rattle.control_word.specs.plain_state.Lists.{times}
 use Rattle.lane_files.specs.Counting.{CountsFile}
 use Rattle.lane_files.specs.Keeping.{GivesUp, slots_of}
 use Rattle.lane_files.proofs.Drawn.{after_owns}

@@ -1,7 +1,7 @@
 use Rattle.std.proofs.Common.{refl, sym, subst, arith}
 use Rattle.std.specs.Int.{div_ceil}
 use Rattle.std.specs.Prelude.{length}
-use Rattle.words_law.specs.Views.{View}
+use Rattle.words_protocol.specs.words_law.Views.{View}
 use Rattle.lane_files.specs.Passed.{UsesInterns}
 use Rattle.lane_files.specs.PieceMakes.{cause_in}
 use Rattle.lane_files.proofs.Copied.{copy_ready}

@@ -1,6 +1,6 @@
 use Rattle.std.proofs.Common.{refl, ap, ◌∙◌, arith}
 use Rattle.std.specs.Prelude.{Ok}
-use Rattle.directory_law.specs.Bytes.{text_bytes}
+use Rattle.words_protocol.specs.directory_law.Bytes.{text_bytes}
 use Rattle.lane_files.proofs.SeatsKept.{owns_on, uses_then}
 use Rattle.lane_files.proofs.Passed.{ok_unless, passed}
 use Rattle.lane_files.proofs.Unmade.{take_lacks}

@@ -1,7 +1,7 @@
 use Rattle.std.proofs.Common.{ap, ◌∙◌}
-use Rattle.plain_state.specs.Lists.{times}
-use Rattle.core_events.specs.declared.view.CoreView.{CoreView}
-use Rattle.core_events.specs.Views.{snapshots}
+use Rattle.law_lesson.specs.plain_state.Lists.{times}
+use Rattle.domain_audit.specs.core_events.declared.view.CoreView.{CoreView}
+use Rattle.domain_audit.specs.core_events.Views.{snapshots}
 use Rattle.lane_reports.proofs.Audited.{owned_both, owned_then}
 use Rattle.lane_reports.proofs.Quiet.{quiet_dying, quiet_retired}
 use Rattle.lane_reports.proofs.audits.audit_at_rest.Goals as goal

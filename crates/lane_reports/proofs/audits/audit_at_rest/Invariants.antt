@@ -1,8 +1,8 @@
 use Rattle.std.proofs.Common.{◌≡◌}
-use Rattle.core_events.specs.Steps.{HasRoom}
-use Rattle.acquire_retire.specs.Collecting.{rest_of}
-use Rattle.control_word.specs.Resting.{IsAtRest}
-use Rattle.domain_rule.specs.Views.{IsAlone}
+use Rattle.domain_audit.specs.core_events.Steps.{HasRoom}
+use Rattle.domain_audit.specs.acquire_retire.Collecting.{rest_of}
+use Rattle.domain_audit.specs.control_word.Resting.{IsAtRest}
+use Rattle.domain_audit.specs.domain_rule.Views.{IsAlone}
 use Rattle.lane_reports.specs.Audits.{KnowsOwned}
 use Rattle.lane_reports.proofs.audits.audit_at_rest.Given as goal
 

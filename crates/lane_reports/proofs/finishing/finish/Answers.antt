@@ -1,11 +1,11 @@
 use Rattle.std.proofs.Common.{List, sym, ap, subst, ◌∙◌}
-use Rattle.directory_calls.specs.Directories.{HasQuota}
-use Rattle.core_events.specs.declared.view.CoreView.{CoreView}
-use Rattle.core_events.specs.Steps.{HasRoom}
-use Rattle.control_word.specs.Resting.{IsUnderNone}
-use Rattle.queue_law.specs.declared.view.View.{View as QueueView}
-use Rattle.words_law.specs.Known.{KnowsMore}
-use Rattle.words_law.specs.Views.{View}
+use Rattle.lane_domain.specs.directory_calls.Directories.{HasQuota}
+use Rattle.domain_audit.specs.core_events.declared.view.CoreView.{CoreView}
+use Rattle.domain_audit.specs.core_events.Steps.{HasRoom}
+use Rattle.domain_audit.specs.control_word.Resting.{IsUnderNone}
+use Rattle.words_rest.specs.queue_law.declared.view.View.{View as QueueView}
+use Rattle.words_rest.specs.words_law.Known.{KnowsMore}
+use Rattle.words_rest.specs.words_law.Views.{View}
 use Rattle.lane_reports.specs.Gathering.{Tally}
 use Rattle.lane_reports.specs.Counting.{CountsAll}
 use Rattle.lane_reports.specs.Reporting.{HasCounted}

@@ -2,16 +2,16 @@ use Rattle.std.proofs.Common.{rules, ◌≡◌, List, refl, sym, ap, subst, ◌�
 use Rattle.std.specs.Prelude.{length, slice_index_or}
 use Rattle.std.specs.Vec.{vec_len}
 use Rattle.std.specs.List.{All}
-use Rattle.plain_state.specs.Lists.{times}
-use Rattle.plain_protocol.specs.Owns.{Object}
-use Rattle.core_events.specs.declared.view.CoreView.{CoreView}
-use Rattle.counted_handles.specs.Handles.{Handle}
-use Rattle.directory_calls.specs.Directories.{HasQuota}
-use Rattle.text_reading.specs.Reading.{HasTwoFree}
-use Rattle.cdrc_text.specs.Text.{IsReport}
-use Rattle.words_law.specs.Known.{ForgetsNothing}
-use Rattle.words_law.specs.Views.{View}
-use Rattle.lane_files.specs.Keeping.{slots_of}
+use Rattle.law_lesson.specs.plain_state.Lists.{times}
+use Rattle.law_lesson.specs.plain_protocol.Owns.{Object}
+use Rattle.domain_audit.specs.core_events.declared.view.CoreView.{CoreView}
+use Rattle.domain_audit.specs.counted_handles.Handles.{Handle}
+use Rattle.lane_domain.specs.directory_calls.Directories.{HasQuota}
+use Rattle.lane_domain.specs.text_reading.Reading.{HasTwoFree}
+use Rattle.tally_sums.specs.cdrc_text.Text.{IsReport}
+use Rattle.words_rest.specs.words_law.Known.{ForgetsNothing}
+use Rattle.words_rest.specs.words_law.Views.{View}
+use Rattle.lane_domain.specs.lane_files.Keeping.{slots_of}
 use Rattle.lane_domain.specs.Sizes.{texts_in}
 use Rattle.lane_reports.specs.Rows.{IsRecordOf}
 use Rattle.lane_reports.proofs.Counting.{learns_more}

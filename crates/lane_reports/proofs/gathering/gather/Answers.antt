@@ -1,7 +1,7 @@
 use Rattle.std.proofs.Common.{rules, ◌≡◌, ◌+◌, ◌++◌, ◌∷◌, [], refl, sym, ap, subst, ◌∙◌, arith, length, vec_len}
 use Rattle.std.specs.List.{sum_by}
 use Rattle.std.proofs.lemmas.List.{length-append, length_push}
-use Rattle.core_events.specs.declared.view.CoreView.{CoreView}
+use Rattle.domain_audit.specs.core_events.declared.view.CoreView.{CoreView}
 use Rattle.lane_reports.specs.declared.done.Done.{Done}
 use Rattle.lane_reports.specs.Gathering.{EachDid, HasGathered, kept_by}
 use Rattle.std.proofs.lemmas.List.Sums.{sum_by-cons}

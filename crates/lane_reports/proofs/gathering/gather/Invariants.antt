@@ -1,7 +1,7 @@
 use Rattle.std.proofs.Common.{◌≡◌, ◌+◌, ◌≤◌, length, vec_capacity, vec_len}
 use Rattle.std.specs.List.{sum_by}
-use Rattle.control_word.specs.Resting.{IsUnderNone}
-use Rattle.lane_files.specs.Ready.{IsReady}
+use Rattle.domain_audit.specs.control_word.Resting.{IsUnderNone}
+use Rattle.lane_domain.specs.lane_files.Ready.{IsReady}
 use Rattle.lane_reports.specs.declared.done.Done.{Done}
 use Rattle.lane_reports.specs.Gathering.{EachDid, HasGathered, kept_by}
 use Rattle.lane_reports.proofs.gathering.gather.Given as goal

@@ -1,7 +1,7 @@
 use Rattle.std.proofs.Common.{◌≡◌, ◌++◌}
-use Rattle.core_events.specs.Steps.{HasRoom}
-use Rattle.control_word.specs.Resting.{IsAtRest}
-use Rattle.lane_files.specs.Keeping.{GivesUp, slots_of}
+use Rattle.domain_audit.specs.core_events.Steps.{HasRoom}
+use Rattle.domain_audit.specs.control_word.Resting.{IsAtRest}
+use Rattle.lane_domain.specs.lane_files.Keeping.{GivesUp, slots_of}
 use Rattle.lane_reports.proofs.giving.give_all.Given as goal
 
 abbrev pub invariant-loop-handle : goal.invariant-loop-handle

@@ -1,7 +1,7 @@
 use Rattle.std.proofs.Common.{◌+◌, List, take, ap, sym, subst, arith, Bool, false, get_or}
 use Rattle.std.proofs.lemmas.List.{take_all}
-use Rattle.plain_state.specs.declared.slot.SlotId.{SlotId}
-use Rattle.counted_handles.specs.Handles.{Handle}
+use Rattle.law_lesson.specs.plain_state.declared.slot.SlotId.{SlotId}
+use Rattle.domain_audit.specs.counted_handles.Handles.{Handle}
 use Rattle.lane_reports.specs.Holders.{AreSlotsOf, has}
 use Rattle.lane_reports.proofs.Slots.{no_slots, one_more, slots_more}
 use Rattle.lane_reports.proofs.held.mark_slots.Goals as goal

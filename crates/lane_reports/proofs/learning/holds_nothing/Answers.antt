@@ -1,5 +1,5 @@
 use Rattle.std.proofs.Common.{ap, ◌∙◌}
-use Rattle.core_events.specs.declared.outcome.Outcome.TheVariants as outcome
+use Rattle.domain_audit.specs.core_events.declared.outcome.Outcome.TheVariants as outcome
 use Rattle.lane_reports.proofs.Learned.{learn_rest, learns_law, learns_nothing}
 use Rattle.lane_reports.proofs.learning.holds_nothing.Goals as goal
 

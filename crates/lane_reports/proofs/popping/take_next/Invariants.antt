@@ -1,6 +1,6 @@
 use Rattle.std.proofs.Common.{◌≡◌, []}
-use Rattle.lane_files.specs.Passed.{Takes, UsesInterns}
-use Rattle.lane_files.specs.Ready.{IsReady, Owns}
+use Rattle.lane_domain.specs.lane_files.Passed.{Takes, UsesInterns}
+use Rattle.lane_domain.specs.lane_files.Ready.{IsReady, Owns}
 use Rattle.lane_reports.proofs.popping.take_next.Given as goal
 
 abbrev pub invariant-loop-try : goal.invariant-loop-try

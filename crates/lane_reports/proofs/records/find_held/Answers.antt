@@ -1,8 +1,8 @@
 use Rattle.std.proofs.Common.{◌<◌, sym, ◌∙◌, subst}
-use Rattle.plain_state.specs.declared.slot.SlotId.{SlotId}
-use Rattle.plain_state.specs.Lists.{times}
-use Rattle.counted_handles.specs.Handles.{Handle}
-use Rattle.weak_intern.specs.Knowing.{KnowsRecord}
+use Rattle.law_lesson.specs.plain_state.declared.slot.SlotId.{SlotId}
+use Rattle.law_lesson.specs.plain_state.Lists.{times}
+use Rattle.domain_audit.specs.counted_handles.Handles.{Handle}
+use Rattle.lane_domain.specs.weak_intern.Knowing.{KnowsRecord}
 use Rattle.lane_reports.specs.Holders.{texts}
 use Rattle.lane_reports.proofs.CountingHolders.{root_still}
 use Rattle.lane_reports.proofs.Tells.{tells_text}

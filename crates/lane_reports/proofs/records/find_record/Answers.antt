@@ -1,5 +1,5 @@
 use Rattle.std.proofs.Common.{◌≡◌, true}
-use Rattle.plain_state.specs.declared.slot.SlotId.{SlotId}
+use Rattle.law_lesson.specs.plain_state.declared.slot.SlotId.{SlotId}
 use Rattle.words_rest.specs.Kept.{TellsWord}
 use Rattle.lane_reports.specs.Holders.{has}
 use Rattle.lane_reports.specs.Kept.{lives_in}

@@ -1,5 +1,5 @@
-use Rattle.directory_calls.specs.Learning.{LearnsIn}
-use Rattle.directory_calls.specs.Steps.{Leaves}
+use Rattle.lane_domain.specs.directory_calls.Learning.{LearnsIn}
+use Rattle.lane_domain.specs.directory_calls.Steps.{Leaves}
 use Rattle.lane_reports.specs.Holders.{IsRoot, texts, with_texts}
 use Rattle.lane_reports.proofs.records.find_record.Given as goal
 

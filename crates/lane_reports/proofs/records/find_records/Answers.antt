@@ -1,8 +1,8 @@
 use Rattle.std.proofs.Common.{◌≡◌, Bool, true, ◌∷◌, ◌++◌, [], List, ℕ, length, length-append, append-nil, ap, sym, ◌∙◌, subst, arith}
 use Rattle.std.specs.Borrow.{Bor}
-use Rattle.cdrc_text.specs.Tally.{shown_entries}
-use Rattle.slot_store.proofs.Quieting.{no_items}
-use Rattle.lane_files.specs.Keeping.{slots_of}
+use Rattle.tally_sums.specs.cdrc_text.Tally.{shown_entries}
+use Rattle.domain_audit.proofs.Below.slot_store.Quieting.{no_items}
+use Rattle.lane_domain.specs.lane_files.Keeping.{slots_of}
 use Rattle.lane_reports.specs.Holders.{has}
 use Rattle.lane_reports.specs.Rows.{sums_in}
 use Rattle.tally_sums.specs.Sums.{SumsUp}

@@ -1,10 +1,10 @@
 use Rattle.std.proofs.Common.{◌≤◌, ◌+◌, ◌++◌, length}
 use Rattle.std.specs.Prelude.{vec_capacity}
 use Rattle.std.specs.List.{All}
-use Rattle.cdrc_text.specs.Tally.{shown_entries}
-use Rattle.directory_calls.specs.Learning.{LearnsIn}
-use Rattle.directory_calls.specs.Steps.{Leaves}
-use Rattle.lane_files.specs.Keeping.{slots_of}
+use Rattle.tally_sums.specs.cdrc_text.Tally.{shown_entries}
+use Rattle.lane_domain.specs.directory_calls.Learning.{LearnsIn}
+use Rattle.lane_domain.specs.directory_calls.Steps.{Leaves}
+use Rattle.lane_domain.specs.lane_files.Keeping.{slots_of}
 use Rattle.lane_reports.specs.Holders.{IsRoot, texts, with_texts}
 use Rattle.lane_reports.specs.Rows.{IsRecordOf, sums_in}
 use Rattle.tally_sums.specs.Sums.{SumsUp}

@@ -1,8 +1,8 @@
 use Rattle.std.proofs.Common.{◌≡◌, ◌≤◌, ◌+◌, ◌++◌, length}
 use Rattle.std.specs.Prelude.{Some, vec_capacity}
-use Rattle.plain_state.specs.State.{Plain}
-use Rattle.directory_calls.specs.Steps.{Leaves}
-use Rattle.domain_rule.specs.Views.{own_of}
+use Rattle.law_lesson.specs.plain_state.State.{Plain}
+use Rattle.lane_domain.specs.directory_calls.Steps.{Leaves}
+use Rattle.domain_audit.specs.domain_rule.Views.{own_of}
 use Rattle.lane_reports.specs.Holders.{IsRoot}
 use Rattle.lane_reports.specs.Rows.{AreRowsOf}
 use Rattle.lane_reports.proofs.rows.count_rows.Given as goal

@@ -1,11 +1,11 @@
 use Rattle.std.proofs.Common.{All, sym, ap, subst, ◌∙◌, arith}
 use Rattle.std.specs.Prelude.{length}
 use Rattle.std.proofs.lemmas.Result.{err_from_is_err_and}
-use Rattle.plain_state.specs.Lists.{times}
-use Rattle.core_events.specs.declared.shape.Shape.{Shape}
-use Rattle.core_law.proofs.Each.{length_each}
-use Rattle.core_law.proofs.Kit.{times_none}
-use Rattle.queue_law.specs.declared.view.View.{View as QueueView}
+use Rattle.law_lesson.specs.plain_state.Lists.{times}
+use Rattle.domain_audit.specs.core_events.declared.shape.Shape.{Shape}
+use Rattle.domain_audit.proofs.Below.core_law.Each.{length_each}
+use Rattle.domain_audit.proofs.Below.core_law.Kit.{times_none}
+use Rattle.words_rest.specs.queue_law.declared.view.View.{View as QueueView}
 use Rattle.lane_domain.specs.Opened.{fresh_seat}
 use Rattle.lane_domain.specs.Beginning.{CanBegin}
 use Rattle.lane_domain.proofs.SeatsOpened.{opened_begin}

@@ -1,7 +1,7 @@
 use Rattle.std.proofs.Common.{◌+◌, ◌≤◌, take, subst, sym, arith}
 use Rattle.std.specs.List.{sum_by}
 use Rattle.std.proofs.lemmas.List.{take_all}
-use Rattle.cdrc_text.specs.Tally.{total_of}
+use Rattle.tally_sums.specs.cdrc_text.Tally.{total_of}
 use Rattle.tally_sums.specs.Sums.{Tallies}
 use Rattle.lane_reports.proofs.Slots.{one_more}
 use Rattle.lane_reports.proofs.Counts.{tallies_push}

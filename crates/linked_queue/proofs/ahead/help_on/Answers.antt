@@ -1,8 +1,8 @@
 use Rattle.std.proofs.Common.{ap, refl, subst, arith, ℕ}
 use Rattle.std.specs.Prelude.{Option}
-use Rattle.plain_state.specs.declared.slot.SlotId.{SlotId}
-use Rattle.core_events.specs.declared.view.CoreView.{CoreView}
-use Rattle.acquire_retire.proofs.Wholes.{then_ok}
+use Rattle.queue_protocol.specs.plain_state.declared.slot.SlotId.{SlotId}
+use Rattle.slot_store.specs.core_events.declared.view.CoreView.{CoreView}
+use Rattle.slot_store.proofs.Below.acquire_retire.Wholes.{then_ok}
 use Rattle.part_calls.specs.Parts.{as_part, seen_by}
 use Rattle.linked_queue.specs.Pushes.{Helps, HelpsOn, IsWhyUnlinked, LooksAhead}
 use Rattle.linked_queue.specs.PushLosses.{LosesPassed}

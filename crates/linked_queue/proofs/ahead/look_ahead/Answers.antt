@@ -1,7 +1,7 @@
 use Rattle.std.proofs.Common.{refl}
-use Rattle.plain_state.specs.declared.act.EventPlace.TheVariants.{Field}
+use Rattle.queue_protocol.specs.plain_state.declared.act.EventPlace.TheVariants.{Field}
 use Rattle.part_calls.specs.Parts.{as_part, seen_by}
-use Rattle.queue_law.specs.Lessons.{ahead_next}
+use Rattle.queue_protocol.specs.queue_law.Lessons.{ahead_next}
 use Rattle.linked_queue.proofs.Accepting.{kept_all}
 use Rattle.linked_queue.proofs.Looks.{step_as}
 use Rattle.linked_queue.proofs.TailLooks.{ahead_behind, ahead_leaves, ahead_passed, ahead_ready}

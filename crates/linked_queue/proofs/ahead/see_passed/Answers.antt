@@ -1,8 +1,8 @@
 use Rattle.std.proofs.Common.{ap, ◌∙◌, refl}
-use Rattle.plain_state.specs.declared.act.EventPlace.TheVariants.{Cell}
-use Rattle.core_events.specs.declared.outcome.Outcome.TheVariants as outcome
+use Rattle.queue_protocol.specs.plain_state.declared.act.EventPlace.TheVariants.{Cell}
+use Rattle.slot_store.specs.core_events.declared.outcome.Outcome.TheVariants as outcome
 use Rattle.part_calls.specs.Parts.{as_part, seen_by}
-use Rattle.queue_law.specs.Lessons.{passed_next}
+use Rattle.queue_protocol.specs.queue_law.Lessons.{passed_next}
 use Rattle.linked_queue.proofs.Accepting.{kept_all}
 use Rattle.linked_queue.proofs.Leavings.{leaves_all}
 use Rattle.linked_queue.proofs.Looks.{looked, step_as, word_slot_of}

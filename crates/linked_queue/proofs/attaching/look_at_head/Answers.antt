@@ -1,8 +1,8 @@
-use Rattle.queue_law.specs.Lessons.{attach_next}
+use Rattle.queue_protocol.specs.queue_law.Lessons.{attach_next}
 use Rattle.linked_queue.proofs.Accepting.{attach_kept, kept_all}
 use Rattle.part_calls.specs.Parts.{as_part, seen_by}
 use Rattle.std.proofs.Common.{ap}
-use Rattle.plain_state.specs.declared.act.EventPlace.TheVariants.{Cell}
+use Rattle.queue_protocol.specs.plain_state.declared.act.EventPlace.TheVariants.{Cell}
 use Rattle.linked_queue.proofs.Looks.{looked, looked_there, step_as}
 use Rattle.linked_queue.proofs.attaching.look_at_head.Goals as goal
 

@@ -1,11 +1,11 @@
 use Rattle.linked_queue.specs.UnlessRipe.{next_unless}
-use Rattle.queue_law.specs.Nodes.{carry_next}
+use Rattle.queue_protocol.specs.queue_law.Nodes.{carry_next}
 use Rattle.linked_queue.proofs.Owning.{owned_node}
 use Rattle.linked_queue.proofs.Accepting.{kept_all, unless_kept}
 use Rattle.part_calls.specs.Parts.{as_part, seen_by}
 use Rattle.std.proofs.Common.{refl}
 use Rattle.std.specs.Prelude.{Some}
-use Rattle.plain_state.specs.declared.act.EventPlace.TheVariants.{Field}
+use Rattle.queue_protocol.specs.plain_state.declared.act.EventPlace.TheVariants.{Field}
 use Rattle.linked_queue.proofs.Leavings.{exchange_leaves}
 use Rattle.linked_queue.proofs.Carryings.{carries, carries_item}
 use Rattle.linked_queue.proofs.carrying.carry.Goals as goal

@@ -1,10 +1,10 @@
 use Rattle.linked_queue.specs.Queues.{beside_eyes}
 use Rattle.std.proofs.Common.{[], ◌∷◌, ◌++◌, refl, ap, sym, ◌∙◌, subst, arith, inl, inr}
 use Rattle.std.specs.Prelude.{None}
-use Rattle.plain_state.specs.declared.slot.SlotId.{SlotId}
-use Rattle.core_events.specs.declared.view.CoreView.{CoreView}
-use Rattle.core_law.proofs.Kit.{times_push}
-use Rattle.queue_law.specs.Pushes.{carried_item}
+use Rattle.queue_protocol.specs.plain_state.declared.slot.SlotId.{SlotId}
+use Rattle.slot_store.specs.core_events.declared.view.CoreView.{CoreView}
+use Rattle.slot_store.proofs.Below.core_law.Kit.{times_push}
+use Rattle.queue_protocol.specs.queue_law.Pushes.{carried_item}
 use Rattle.part_calls.specs.Parts.{as_part, seen_by}
 use Rattle.linked_queue.specs.Pushes.{Links, SeesBehind}
 use Rattle.linked_queue.proofs.Accepting.{may_still}

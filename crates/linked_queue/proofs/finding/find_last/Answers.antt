@@ -1,13 +1,13 @@
 use Rattle.part_calls.specs.Parts.{as_part, seen_by}
 use Rattle.std.proofs.Common.{rules, false, inl, inr, ◌++◌, [], ◌∷◌, refl, ap, subst, arith, ◌∙◌}
 use Rattle.std.specs.Prelude.{IfSome, None, Option, Some}
-use Rattle.core_events.specs.declared.view.CoreView.{CoreView}
-use Rattle.counted_handles.specs.Handles.{Handle}
-use Rattle.plain_state.specs.declared.act.EventPlace.TheVariants.{Cell}
-use Rattle.plain_state.specs.declared.slot.SlotId.{SlotId}
-use Rattle.atomic_shared.specs.Places.{named}
-use Rattle.protected_loads.specs.References.{Loads}
-use Rattle.queue_law.specs.Lessons.{learn_next}
+use Rattle.slot_store.specs.core_events.declared.view.CoreView.{CoreView}
+use Rattle.slot_store.specs.counted_handles.Handles.{Handle}
+use Rattle.queue_protocol.specs.plain_state.declared.act.EventPlace.TheVariants.{Cell}
+use Rattle.queue_protocol.specs.plain_state.declared.slot.SlotId.{SlotId}
+use Rattle.part_calls.specs.atomic_shared.Places.{named}
+use Rattle.part_calls.specs.protected_loads.References.{Loads}
+use Rattle.queue_protocol.specs.queue_law.Lessons.{learn_next}
 use Rattle.linked_queue.specs.Cells.{TailTells}
 use Rattle.linked_queue.specs.Leaving.{Leaves, with_found}
 use Rattle.linked_queue.specs.Pushes.{FindsBehind, SeesTail}

@@ -1,4 +1,4 @@
-use Rattle.queue_law.specs.Lessons.{learn_next}
+use Rattle.queue_protocol.specs.queue_law.Lessons.{learn_next}
 use Rattle.linked_queue.proofs.Accepting.{kept_all, learn_kept}
 use Rattle.part_calls.proofs.Seen.{rest_seen}
 use Rattle.part_calls.specs.Parts.{as_part, seen_by}
@@ -9,8 +9,8 @@ use Rattle.linked_queue.specs.PushLosses.{MissesTail}
 use Rattle.linked_queue.specs.Pushes.{SeesTail}
 use Rattle.linked_queue.proofs.CellLoads.{cell_seen, cell_sights, cell_there, not_null}
 use Rattle.linked_queue.proofs.Nodes.{sees_tail}
-use Rattle.counted_handles.specs.declared.place.Place.TheVariants as place
-use Rattle.counted_handles.specs.declared.refusal.LoadError.TheVariants as unloaded
+use Rattle.slot_store.specs.counted_handles.declared.place.Place.TheVariants as place
+use Rattle.slot_store.specs.counted_handles.declared.refusal.LoadError.TheVariants as unloaded
 use Rattle.linked_queue.proofs.Leavings.{spent_still}
 use Rattle.linked_queue.proofs.Making.{load_makes}
 use Rattle.linked_queue.proofs.finding.load_tail.Goals as goal

@@ -1,5 +1,5 @@
 use Rattle.std.proofs.Common.{ap, refl}
-use Rattle.queue_law.specs.Nodes.{make_next}
+use Rattle.queue_protocol.specs.queue_law.Nodes.{make_next}
 use Rattle.linked_queue.proofs.Accepting.{kept_all}
 use Rattle.part_calls.specs.Parts.{as_part, seen_by}
 use Rattle.slot_store.specs.declared.making.MakeError.TheVariants as refused

@@ -2,16 +2,16 @@ use Rattle.linked_queue.proofs.Accepting.{kept_all}
 use Rattle.part_calls.specs.Parts.{as_part, seen_by}
 use Rattle.std.proofs.Common.{◌≡◌, ℕ, ◌<◌, inr, refl, ap, sym, ◌∙◌, subst}
 use Rattle.std.specs.Prelude.{Some}
-use Rattle.plain_state.specs.declared.act.EventPlace.TheVariants.{Cell}
-use Rattle.core_events.specs.declared.shape.Shape.{Shape}
-use Rattle.counted_handles.specs.Handles.{Handle}
-use Rattle.acquire_retire.specs.Seats.{SeatState}
-use Rattle.control_word.specs.Calls.{DropsStrong, without_strong}
-use Rattle.control_word.specs.Moves.{KnowsStill}
-use Rattle.retiring_stores.specs.Exchanging.{LosesTo}
-use Rattle.queue_law.specs.Lessons.{TellsNothing}
-use Rattle.queue_law.specs.Pushes.{advance_next}
-use Rattle.queue_law.specs.declared.view.View.{View}
+use Rattle.queue_protocol.specs.plain_state.declared.act.EventPlace.TheVariants.{Cell}
+use Rattle.slot_store.specs.core_events.declared.shape.Shape.{Shape}
+use Rattle.slot_store.specs.counted_handles.Handles.{Handle}
+use Rattle.slot_store.specs.acquire_retire.Seats.{SeatState}
+use Rattle.slot_store.specs.control_word.Calls.{DropsStrong, without_strong}
+use Rattle.slot_store.specs.control_word.Moves.{KnowsStill}
+use Rattle.slot_store.specs.retiring_stores.Exchanging.{LosesTo}
+use Rattle.queue_protocol.specs.queue_law.Lessons.{TellsNothing}
+use Rattle.queue_protocol.specs.queue_law.Pushes.{advance_next}
+use Rattle.queue_protocol.specs.queue_law.declared.view.View.{View}
 use Rattle.linked_queue.proofs.Leavings.{drop_leaves, exchange_leaves}
 use Rattle.linked_queue.proofs.Linkings.{advanced, lost_keeps, then_gives}
 use Rattle.linked_queue.proofs.linking.advance.Goals as goal

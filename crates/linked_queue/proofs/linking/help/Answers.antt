@@ -1,11 +1,11 @@
 use Rattle.part_calls.specs.Parts.{as_part, seen_by}
 use Rattle.std.proofs.Common.{◌≡◌, ◌<◌, refl, ap, sym, ◌∙◌, subst, arith}
 use Rattle.std.specs.Prelude.{None}
-use Rattle.plain_state.specs.declared.slot.SlotId.{SlotId}
-use Rattle.core_events.specs.declared.shape.Shape.{Shape}
-use Rattle.core_events.specs.declared.view.CoreView.{CoreView}
-use Rattle.core_events.specs.Views.{without}
-use Rattle.control_word.proofs.Finding.{slot_there}
+use Rattle.queue_protocol.specs.plain_state.declared.slot.SlotId.{SlotId}
+use Rattle.slot_store.specs.core_events.declared.shape.Shape.{Shape}
+use Rattle.slot_store.specs.core_events.declared.view.CoreView.{CoreView}
+use Rattle.slot_store.specs.core_events.Views.{without}
+use Rattle.slot_store.proofs.Below.control_word.Finding.{slot_there}
 use Rattle.linked_queue.specs.Leaving.{Leaves}
 use Rattle.linked_queue.specs.Pushes.{Advances, SeesBehind, advanced_in}
 use Rattle.linked_queue.proofs.Leavings.{copy_leaves, leaves_same}

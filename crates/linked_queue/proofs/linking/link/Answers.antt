@@ -1,19 +1,19 @@
-use Rattle.plain_protocol.specs.Owns.{Object}
+use Rattle.queue_protocol.specs.plain_protocol.Owns.{Object}
 use Rattle.linked_queue.proofs.Owning.{has_owned, owned_node}
 use Rattle.linked_queue.proofs.Accepting.{link_all}
 use Rattle.part_calls.specs.Parts.{as_part, seen_by}
 use Rattle.std.proofs.Common.{rules, ◌≡◌, refl, ap, sym, ◌∙◌, subst, arith}
 use Rattle.std.specs.Prelude.{None, Some}
-use Rattle.plain_state.specs.declared.act.EventPlace.TheVariants.{Field}
-use Rattle.plain_state.specs.declared.slot.SlotId.{SlotId}
-use Rattle.core_events.specs.Views.{without}
-use Rattle.counted_handles.specs.Handles.{Handle}
-use Rattle.acquire_retire.specs.Calls.{IsSameView, same_view}
-use Rattle.control_word.specs.Calls.{DropsStrong, GainsStrong, without_strong}
-use Rattle.control_word.specs.Moves.{KnowsStill}
-use Rattle.retiring_stores.specs.Exchanging.{LosesTo, Replaces}
-use Rattle.queue_law.specs.Lessons.{TellsNothing}
-use Rattle.queue_law.specs.Pushes.{link_next, carried_item}
+use Rattle.queue_protocol.specs.plain_state.declared.act.EventPlace.TheVariants.{Field}
+use Rattle.queue_protocol.specs.plain_state.declared.slot.SlotId.{SlotId}
+use Rattle.slot_store.specs.core_events.Views.{without}
+use Rattle.slot_store.specs.counted_handles.Handles.{Handle}
+use Rattle.slot_store.specs.acquire_retire.Calls.{IsSameView, same_view}
+use Rattle.slot_store.specs.control_word.Calls.{DropsStrong, GainsStrong, without_strong}
+use Rattle.slot_store.specs.control_word.Moves.{KnowsStill}
+use Rattle.slot_store.specs.retiring_stores.Exchanging.{LosesTo, Replaces}
+use Rattle.queue_protocol.specs.queue_law.Lessons.{TellsNothing}
+use Rattle.queue_protocol.specs.queue_law.Pushes.{link_next, carried_item}
 use Rattle.linked_queue.specs.Leaving.{Leaves}
 use Rattle.linked_queue.proofs.Leavings.{exchange_leaves}
 use Rattle.linked_queue.proofs.Linkings.{link_leaves, link_ready, linked_behind, linked_client, more, unlinked}

@@ -1,10 +1,10 @@
 use Rattle.std.proofs.Common.{ap, subst}
 use Rattle.std.specs.Prelude.{Option}
-use Rattle.counted_handles.specs.Handles.{Handle}
-use Rattle.plain_state.specs.declared.slot.SlotId.{SlotId}
+use Rattle.slot_store.specs.counted_handles.Handles.{Handle}
+use Rattle.queue_protocol.specs.plain_state.declared.slot.SlotId.{SlotId}
 use Rattle.part_calls.proofs.Beside.{stays_beside}
 use Rattle.part_calls.specs.Parts.{as_part, seen_by}
-use Rattle.queue_law.specs.Views.{first_view}
+use Rattle.queue_protocol.specs.queue_law.Views.{first_view}
 use Rattle.linked_queue.specs.Pops.{Pops, item_of, named_both}
 use Rattle.linked_queue.proofs.Poppings.{owns_popped, pops_item_of}
 use Rattle.linked_queue.proofs.popping.pop_at.Goals as goal

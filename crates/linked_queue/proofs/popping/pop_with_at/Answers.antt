@@ -1,6 +1,6 @@
 use Rattle.part_calls.proofs.Beside.{stays_beside}
 use Rattle.part_calls.specs.Parts.{seen_by}
-use Rattle.queue_law.specs.Views.{first_view}
+use Rattle.queue_protocol.specs.queue_law.Views.{first_view}
 use Rattle.linked_queue.proofs.Attached.{pops_with_owned}
 use Rattle.linked_queue.proofs.popping.pop_with_at.Goals as goal
 

@@ -1,12 +1,12 @@
 use Rattle.linked_queue.specs.Pops.{item_in}
-use Rattle.queue_law.specs.Pushes.{carried_item}
+use Rattle.queue_protocol.specs.queue_law.Pushes.{carried_item}
 use Rattle.linked_queue.proofs.Accepting.{may_still}
 use Rattle.part_calls.specs.Parts.{as_part, seen_by}
 use Rattle.std.proofs.Common.{refl, sym, subst}
 use Rattle.std.specs.Prelude.{None}
 use Rattle.linked_queue.proofs.Leavings.{leaves_same}
 use Rattle.linked_queue.proofs.Owning.{through}
-use Rattle.counted_handles.specs.declared.refusal.LoadError.{LoadError}
+use Rattle.slot_store.specs.counted_handles.declared.refusal.LoadError.{LoadError}
 use Rattle.linked_queue.specs.PushLosses.{LosesNode}
 use Rattle.linked_queue.specs.Pushes.{IsWhyUnlinked}
 use Rattle.linked_queue.proofs.pushing.push_copy.Goals as goal

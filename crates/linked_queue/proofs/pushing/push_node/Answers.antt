@@ -1,5 +1,5 @@
 use Rattle.std.proofs.Common.{refl, subst, arith}
-use Rattle.plain_state.specs.declared.slot.SlotId.{SlotId}
+use Rattle.queue_protocol.specs.plain_state.declared.slot.SlotId.{SlotId}
 use Rattle.part_calls.specs.Parts.{as_part, seen_by}
 use Rattle.linked_queue.specs.Pushes.{Advances, Links}
 use Rattle.linked_queue.proofs.Leavings.{drop_leaves, drop_spent, leaves_same}

@@ -1,8 +1,8 @@
 use Rattle.std.specs.Prelude.{◌≡◌}
-use Rattle.core_events.specs.Steps.{HasRoom}
-use Rattle.control_word.specs.Resting.{IsAtRest}
-use Rattle.queue_law.specs.Pushes.{carried_item}
-use Rattle.queue_law.specs.Views.{first_view}
+use Rattle.slot_store.specs.core_events.Steps.{HasRoom}
+use Rattle.slot_store.specs.control_word.Resting.{IsAtRest}
+use Rattle.queue_protocol.specs.queue_law.Pushes.{carried_item}
+use Rattle.queue_protocol.specs.queue_law.Views.{first_view}
 use Rattle.part_calls.specs.Parts.{HasBeside, as_part, seen_by}
 use Rattle.linked_queue.specs.Pushes.{HasLoad}
 use Rattle.linked_queue.specs.Queues.{IsAttached}

@@ -1,9 +1,9 @@
 use Rattle.std.proofs.Common.{◌≡◌, refl, ap}
 use Rattle.std.specs.Prelude.{Err}
-use Rattle.plain_state.specs.declared.act.EventPlace.TheVariants.{Field}
-use Rattle.acquire_retire.specs.Calls.{IsSameView, same_view}
-use Rattle.counted_handles.specs.declared.place.Place.TheVariants as place
-use Rattle.counted_handles.specs.declared.refusal.LoadError.TheVariants as unloaded
+use Rattle.queue_protocol.specs.plain_state.declared.act.EventPlace.TheVariants.{Field}
+use Rattle.slot_store.specs.acquire_retire.Calls.{IsSameView, same_view}
+use Rattle.slot_store.specs.counted_handles.declared.place.Place.TheVariants as place
+use Rattle.slot_store.specs.counted_handles.declared.refusal.LoadError.TheVariants as unloaded
 use Rattle.part_calls.proofs.Seen.{rest_seen}
 use Rattle.part_calls.specs.Parts.{as_part, seen_by}
 use Rattle.linked_queue.specs.Seeing.{MissesAt}

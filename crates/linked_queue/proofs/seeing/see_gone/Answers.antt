@@ -1,9 +1,9 @@
 use Rattle.std.proofs.Common.{ap, ◌∙◌, refl, subst, sym}
-use Rattle.plain_state.specs.declared.act.EventPlace.TheVariants.{Cell}
-use Rattle.core_events.specs.declared.act.Act.TheVariants as act
-use Rattle.core_events.specs.declared.outcome.Outcome.TheVariants as outcome
-use Rattle.core_events.specs.declared.shape.Shape.{Shape}
-use Rattle.acquire_retire.specs.Calls.{IsReady, Steps, same_view}
+use Rattle.queue_protocol.specs.plain_state.declared.act.EventPlace.TheVariants.{Cell}
+use Rattle.slot_store.specs.core_events.declared.act.Act.TheVariants as act
+use Rattle.slot_store.specs.core_events.declared.outcome.Outcome.TheVariants as outcome
+use Rattle.slot_store.specs.core_events.declared.shape.Shape.{Shape}
+use Rattle.slot_store.specs.acquire_retire.Calls.{IsReady, Steps, same_view}
 use Rattle.part_calls.specs.Parts.{as_part, seen_by}
 use Rattle.linked_queue.specs.Items.{GoneReady, GoneTells}
 use Rattle.linked_queue.specs.Queues.{ends_of}

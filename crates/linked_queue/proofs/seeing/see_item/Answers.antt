@@ -1,16 +1,16 @@
 use Rattle.std.proofs.Common.{◌≡◌, ℕ, refl, ap, subst}
 use Rattle.std.specs.Prelude.{Err, IfOk}
-use Rattle.plain_state.specs.declared.act.EventPlace.TheVariants.{Field}
-use Rattle.core_events.specs.declared.shape.Shape.{Shape}
-use Rattle.core_events.specs.Words.{slot_in}
-use Rattle.counted_handles.specs.declared.place.Place.TheVariants as place
-use Rattle.counted_handles.specs.declared.refusal.LoadError.TheVariants as unloaded
-use Rattle.atomic_shared.specs.Places.{named}
+use Rattle.queue_protocol.specs.plain_state.declared.act.EventPlace.TheVariants.{Field}
+use Rattle.slot_store.specs.core_events.declared.shape.Shape.{Shape}
+use Rattle.slot_store.specs.core_events.Words.{slot_in}
+use Rattle.slot_store.specs.counted_handles.declared.place.Place.TheVariants as place
+use Rattle.slot_store.specs.counted_handles.declared.refusal.LoadError.TheVariants as unloaded
+use Rattle.part_calls.specs.atomic_shared.Places.{named}
 use Rattle.part_calls.proofs.Seen.{rest_seen}
 use Rattle.part_calls.specs.Parts.{as_part, seen_by}
-use Rattle.protected_loads.specs.Loads.{Misses}
-use Rattle.protected_loads.specs.References.{Loads}
-use Rattle.queue_law.specs.Lessons.{TellsNothing}
+use Rattle.part_calls.specs.protected_loads.Loads.{Misses}
+use Rattle.part_calls.specs.protected_loads.References.{Loads}
+use Rattle.queue_protocol.specs.queue_law.Lessons.{TellsNothing}
 use Rattle.linked_queue.specs.Items.{see_item_next}
 use Rattle.linked_queue.specs.Seeing.{LoadsItem, MissesItem, SeesItem, SeesNone}
 use Rattle.linked_queue.proofs.Accepting.{kept_all}

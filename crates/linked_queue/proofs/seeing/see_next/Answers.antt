@@ -2,16 +2,16 @@ use Rattle.linked_queue.proofs.Accepting.{kept_all}
 use Rattle.part_calls.proofs.Seen.{rest_seen}
 use Rattle.part_calls.specs.Parts.{as_part, seen_by}
 use Rattle.std.proofs.Common.{refl, ap}
-use Rattle.plain_state.specs.declared.act.EventPlace.TheVariants.{Field}
-use Rattle.counted_handles.specs.declared.place.Place.TheVariants as place
-use Rattle.protected_loads.specs.References.{Loads}
-use Rattle.queue_law.specs.Lessons.{NextTells, next_next}
+use Rattle.queue_protocol.specs.plain_state.declared.act.EventPlace.TheVariants.{Field}
+use Rattle.slot_store.specs.counted_handles.declared.place.Place.TheVariants as place
+use Rattle.part_calls.specs.protected_loads.References.{Loads}
+use Rattle.queue_protocol.specs.queue_law.Lessons.{NextTells, next_next}
 use Rattle.linked_queue.specs.Queues.{ends_of}
 use Rattle.linked_queue.specs.Seeing.{FindsLast, MissesNext, SeesNext}
 use Rattle.linked_queue.proofs.CellLoads.{found_none, found_sees}
 use Rattle.linked_queue.proofs.Nodes.{finds_last, sees_next}
 use Rattle.linked_queue.proofs.Sights.{sights}
-use Rattle.counted_handles.specs.declared.refusal.LoadError.TheVariants as unloaded
+use Rattle.slot_store.specs.counted_handles.declared.refusal.LoadError.TheVariants as unloaded
 use Rattle.linked_queue.proofs.Leavings.{spent_still}
 use Rattle.linked_queue.proofs.Making.{load_makes}
 use Rattle.linked_queue.proofs.seeing.see_next.Goals as goal

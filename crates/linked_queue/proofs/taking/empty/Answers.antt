@@ -1,11 +1,11 @@
 use Rattle.std.proofs.Common.{refl}
 use Rattle.linked_queue.specs.UnlessRipe.{next_unless}
-use Rattle.queue_law.specs.Pops.{empty_next}
+use Rattle.queue_protocol.specs.queue_law.Pops.{empty_next}
 use Rattle.linked_queue.proofs.Owning.{owned_node}
 use Rattle.linked_queue.proofs.Accepting.{kept_all, unless_kept}
 use Rattle.part_calls.specs.Parts.{seen_by}
 use Rattle.std.specs.Prelude.{None}
-use Rattle.plain_state.specs.declared.act.EventPlace.TheVariants.{Field}
+use Rattle.queue_protocol.specs.plain_state.declared.act.EventPlace.TheVariants.{Field}
 use Rattle.linked_queue.proofs.Leavings.{exchange_leaves}
 use Rattle.linked_queue.proofs.taking.empty.Goals as goal
 

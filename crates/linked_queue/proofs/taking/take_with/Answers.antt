@@ -1,8 +1,8 @@
 use Rattle.std.proofs.Common.{◌≡◌, ◌∙◌, inl, inr, ap, sym, subst, arith, ◌+◌, ℕ}
-use Rattle.atomic_shared.specs.Places.{named}
+use Rattle.part_calls.specs.atomic_shared.Places.{named}
 use Rattle.part_calls.specs.Parts.{as_part, seen_by}
-use Rattle.queue_law.specs.declared.view.Item.{Item}
-use Rattle.queue_law.specs.declared.view.View.{View}
+use Rattle.queue_protocol.specs.queue_law.declared.view.Item.{Item}
+use Rattle.queue_protocol.specs.queue_law.declared.view.View.{View}
 use Rattle.linked_queue.specs.declared.queue.PopError.{PopError}
 use Rattle.linked_queue.specs.Losses.{LosesHead, LosesWith, MissesContent}
 use Rattle.linked_queue.specs.Pops.{IsWhyLost, adds_of, item_in, popped_too}

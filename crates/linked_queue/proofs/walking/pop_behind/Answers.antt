@@ -1,12 +1,12 @@
 use Rattle.std.proofs.Common.{◌∙◌, inl, inr, ap, sym, subst, arith, ◌+◌, ℕ}
 use Rattle.std.specs.Prelude.{None, Option, Some}
-use Rattle.plain_state.specs.declared.act.EventPlace.TheVariants.{Field}
-use Rattle.plain_state.specs.declared.slot.SlotId.{SlotId}
-use Rattle.counted_handles.specs.Handles.{Handle}
-use Rattle.atomic_shared.specs.Places.{named}
+use Rattle.queue_protocol.specs.plain_state.declared.act.EventPlace.TheVariants.{Field}
+use Rattle.queue_protocol.specs.plain_state.declared.slot.SlotId.{SlotId}
+use Rattle.slot_store.specs.counted_handles.Handles.{Handle}
+use Rattle.part_calls.specs.atomic_shared.Places.{named}
 use Rattle.part_calls.specs.Parts.{as_part, seen_by}
-use Rattle.protected_loads.specs.References.{Loads}
-use Rattle.queue_law.specs.Lessons.{NextTells, next_next}
+use Rattle.part_calls.specs.protected_loads.References.{Loads}
+use Rattle.queue_protocol.specs.queue_law.Lessons.{NextTells, next_next}
 use Rattle.linked_queue.specs.declared.queue.PopError.{PopError}
 use Rattle.linked_queue.specs.Leaving.{Leaves, with_found}
 use Rattle.linked_queue.specs.Losses.{LosesBehind, LosesNode}

@@ -1,6 +1,6 @@
 use Rattle.std.proofs.Common.{ap, length, ◌∙◌, sym}
-use Rattle.plain_state.specs.State.{PlainSeat}
-use Rattle.core_events.specs.declared.view.CoreView.{CoreView}
+use Rattle.protected_loads.specs.plain_state.State.{PlainSeat}
+use Rattle.protected_loads.specs.core_events.declared.view.CoreView.{CoreView}
 use Rattle.lone_heap.proofs.Audited.{audits, ranks_there, stays_ready, stays_same}
 use Rattle.lone_heap.proofs.Trailing.{becomes_goes}
 use Rattle.lone_heap.proofs.auditing.audit_lone.Goals as goal

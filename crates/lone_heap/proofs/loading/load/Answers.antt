@@ -1,6 +1,6 @@
 use Rattle.std.proofs.Common.{◌∙◌, ap, Err}
-use Rattle.core_events.specs.Words.{slot_in}
-use Rattle.acquire_retire.specs.Calls.{IsSameView, same_view}
+use Rattle.protected_loads.specs.core_events.Words.{slot_in}
+use Rattle.protected_loads.specs.acquire_retire.Calls.{IsSameView, same_view}
 use Rattle.lone_heap.proofs.Acquiring.{misses_none}
 use Rattle.lone_heap.proofs.Placing.{readable_here}
 use Rattle.lone_heap.proofs.Referring.{loads_go, loads_ready, loads_shown, weakly_loads_shown}

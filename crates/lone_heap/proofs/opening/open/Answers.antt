@@ -1,6 +1,6 @@
 use Rattle.std.proofs.Common.{ℕ, List, Err, ap, sym, ◌∙◌, arith}
 use Rattle.std.specs.Prelude.{slice_index_or}
-use Rattle.acquire_retire.specs.Seats.{SeatState}
+use Rattle.protected_loads.specs.acquire_retire.Seats.{SeatState}
 use Rattle.lone_heap.proofs.Opened.{never_bad, opened_first, seat_ready, seat_shown}
 use Rattle.lone_heap.proofs.opening.open.Goals as goal
 

@@ -1,8 +1,8 @@
 use Rattle.std.proofs.Common.{inl}
-use Rattle.plain_state.specs.Places.{place_kind}
-use Rattle.core_events.specs.declared.act.Act.TheVariants as act
-use Rattle.core_events.specs.declared.outcome.Outcome.TheVariants as outcome
-use Rattle.acquire_retire.specs.Collecting.{move}
+use Rattle.protected_loads.specs.plain_state.Places.{place_kind}
+use Rattle.protected_loads.specs.core_events.declared.act.Act.TheVariants as act
+use Rattle.protected_loads.specs.core_events.declared.outcome.Outcome.TheVariants as outcome
+use Rattle.protected_loads.specs.acquire_retire.Collecting.{move}
 use Rattle.lone_heap.proofs.Placing.{exchange_ready, give_here, open_here, put_shown, put_shows}
 use Rattle.lone_heap.proofs.places.put.Goals as goal
 

@@ -1,9 +1,9 @@
 use Rattle.std.proofs.Common.{subst, sym, ◌∙◌}
-use Rattle.plain_state.specs.Places.{place_kind}
-use Rattle.plain_state.specs.Places.{IsOpen}
-use Rattle.plain_state.specs.State.{Plain, seat_at}
-use Rattle.plain_store.specs.Calls.{MayGive, Tries}
-use Rattle.acquire_retire.specs.Calls.{IsSameView, same_view}
+use Rattle.protected_loads.specs.plain_state.Places.{place_kind}
+use Rattle.protected_loads.specs.plain_state.Places.{IsOpen}
+use Rattle.protected_loads.specs.plain_state.State.{Plain, seat_at}
+use Rattle.plain_settling.specs.plain_store.Calls.{MayGive, Tries}
+use Rattle.protected_loads.specs.acquire_retire.Calls.{IsSameView, same_view}
 use Rattle.lone_heap.specs.Lone.{ThenTidies, known_plain}
 use Rattle.lone_heap.proofs.Placing.{give_here, open_here, tried_ready, tried_shown, tried_shows, try_after}
 use Rattle.lone_heap.proofs.places.try_put.Goals as goal

@@ -1,9 +1,9 @@
 use Rattle.std.proofs.Common.{◌≡◌}
-use Rattle.plain_store.specs.Calls.{Gains}
-use Rattle.counted_handles.specs.Handles.{Handle}
-use Rattle.acquire_retire.specs.Calls.{IsSameView, same_view}
-use Rattle.acquire_retire.proofs.Wholes.{then_ok}
-use Rattle.control_word.specs.Calls.{GainsStrong}
+use Rattle.plain_settling.specs.plain_store.Calls.{Gains}
+use Rattle.protected_loads.specs.counted_handles.Handles.{Handle}
+use Rattle.protected_loads.specs.acquire_retire.Calls.{IsSameView, same_view}
+use Rattle.slot_store.proofs.Below.acquire_retire.Wholes.{then_ok}
+use Rattle.protected_loads.specs.control_word.Calls.{GainsStrong}
 use Rattle.lone_heap.specs.Lone.{known_plain}
 use Rattle.lone_heap.proofs.Owning.{dead_shown, gains_shown, upgrade_ready}
 use Rattle.lone_heap.specs.Trails.{Shows, upgraded}

@@ -1,8 +1,8 @@
 use Rattle.std.proofs.Common.{◌≡◌}
-use Rattle.plain_store.specs.Calls.{WeaklyGains}
-use Rattle.counted_handles.specs.Handles.{Handle}
-use Rattle.acquire_retire.proofs.Wholes.{then_ok}
-use Rattle.control_word.specs.Calls.{GainsWeak}
+use Rattle.plain_settling.specs.plain_store.Calls.{WeaklyGains}
+use Rattle.protected_loads.specs.counted_handles.Handles.{Handle}
+use Rattle.slot_store.proofs.Below.acquire_retire.Wholes.{then_ok}
+use Rattle.protected_loads.specs.control_word.Calls.{GainsWeak}
 use Rattle.lone_heap.specs.Lone.{known_plain}
 use Rattle.lone_heap.proofs.Holding.{ready_result}
 use Rattle.lone_heap.proofs.Owning.{weak_gains_shown, weak_gains_ready}

@@ -1,5 +1,5 @@
 use Rattle.std.proofs.Common.{ap}
-use Rattle.core_events.specs.declared.view.CoreView.{CoreView}
+use Rattle.protected_loads.specs.core_events.declared.view.CoreView.{CoreView}
 use Rattle.lone_heap.proofs.Settled.{settle_goes, settle_ready, settle_settled, settle_tidies}
 use Rattle.lone_heap.proofs.settling.settle_all.Goals as goal
 

@@ -1,8 +1,8 @@
 use Rattle.std.proofs.Common.{ap, ◌∙◌, sym, List}
 use Rattle.std.specs.Prelude.{slice_index_or, slice_set}
-use Rattle.core_events.specs.declared.act.Act.TheVariants as act
-use Rattle.core_events.specs.declared.view.Note.{Note}
-use Rattle.core_events.specs.declared.view.Note.TheVariants as note
+use Rattle.protected_loads.specs.core_events.declared.act.Act.TheVariants as act
+use Rattle.protected_loads.specs.core_events.declared.view.Note.{Note}
+use Rattle.protected_loads.specs.core_events.declared.view.Note.TheVariants as note
 use Rattle.lone_heap.proofs.Snapping.{end_ready, end_shown, released_notes}
 use Rattle.lone_heap.proofs.Trailing.{step_goes}
 use Rattle.lone_heap.proofs.snapshots.end.Goals as goal

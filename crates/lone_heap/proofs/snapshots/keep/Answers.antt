@@ -1,5 +1,5 @@
 use Rattle.lone_heap.proofs.Snapping.{keep_ready, keep_shown}
-use Rattle.core_events.specs.declared.act.Act.TheVariants as act
+use Rattle.protected_loads.specs.core_events.declared.act.Act.TheVariants as act
 use Rattle.lone_heap.proofs.Trailing.{step_goes}
 use Rattle.lone_heap.proofs.snapshots.keep.Goals as goal
 

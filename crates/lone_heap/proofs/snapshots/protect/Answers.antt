@@ -1,5 +1,5 @@
 use Rattle.std.proofs.Common.{arith}
-use Rattle.acquire_retire.specs.Calls.{IsSameView, same_view}
+use Rattle.protected_loads.specs.acquire_retire.Calls.{IsSameView, same_view}
 use Rattle.lone_heap.proofs.Acquiring.{acquired_goes, acquired_null, acquired_ready, acquired_under, misses_none}
 use Rattle.lone_heap.proofs.Placing.{readable_here}
 use Rattle.lone_heap.proofs.snapshots.protect.Goals as goal

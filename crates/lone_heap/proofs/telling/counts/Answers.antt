@@ -1,10 +1,10 @@
 use Rattle.std.proofs.Common.{ap, ◌∙◌, subst, [], ◌∷◌}
-use Rattle.plain_state.specs.Places.{Holds}
-use Rattle.plain_state.specs.References.{weak_refs}
-use Rattle.plain_state.specs.State.{Plain, PlainSeat}
-use Rattle.core_events.specs.declared.act.Act.TheVariants as act
-use Rattle.core_events.specs.declared.outcome.Outcome.TheVariants as outcome
-use Rattle.acquire_retire.specs.Collecting.{move}
+use Rattle.protected_loads.specs.plain_state.Places.{Holds}
+use Rattle.protected_loads.specs.plain_state.References.{weak_refs}
+use Rattle.protected_loads.specs.plain_state.State.{Plain, PlainSeat}
+use Rattle.protected_loads.specs.core_events.declared.act.Act.TheVariants as act
+use Rattle.protected_loads.specs.core_events.declared.outcome.Outcome.TheVariants as outcome
+use Rattle.protected_loads.specs.acquire_retire.Collecting.{move}
 use Rattle.lone_heap.specs.Lone.{IsReady}
 use Rattle.lone_heap.proofs.Counted.{held_there, strong_ready, strong_shows, strong_told, weak_is, weak_ready, weak_same}
 use Rattle.lone_heap.proofs.Trailing.{becomes_shows, shows_then}

@@ -1,6 +1,6 @@
 use Rattle.std.proofs.Common.{subst}
-use Rattle.plain_state.specs.Places.{Holds}
-use Rattle.plain_state.specs.State.{PlainSeat}
+use Rattle.protected_loads.specs.plain_state.Places.{Holds}
+use Rattle.protected_loads.specs.plain_state.State.{PlainSeat}
 use Rattle.lone_heap.proofs.Counted.{sees_ready, sees_same, sees_there, sees_word}
 use Rattle.lone_heap.proofs.Trailing.{becomes_goes}
 use Rattle.lone_heap.proofs.telling.read.Goals as goal

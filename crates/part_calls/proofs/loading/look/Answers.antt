@@ -1,10 +1,10 @@
 use Rattle.std.proofs.Common.{◌≡◌, ℕ, ap, sym, subst}
-use Rattle.protocol_pairs.specs.Parts.{Accepts}
-use Rattle.protocol_pairs.specs.Shares.{owned_of}
+use Rattle.slot_store.specs.protocol_pairs.Parts.{Accepts}
+use Rattle.slot_store.specs.protocol_pairs.Shares.{owned_of}
 use Rattle.part_calls.specs.Parts.{as_part, seen_by}
 use Rattle.part_calls.proofs.Seen.{lifted_allows, lifted_next, part_seen}
-use Rattle.core_events.specs.declared.act.Act.TheVariants as act
-use Rattle.acquire_retire.specs.Calls.{IsReady, Steps}
+use Rattle.control_word.specs.core_events.declared.act.Act.TheVariants as act
+use Rattle.control_word.specs.acquire_retire.Calls.{IsReady, Steps}
 use Rattle.part_calls.proofs.Beside.{step_beside}
 use Rattle.part_calls.proofs.Readiness.{look_ready}
 use Rattle.part_calls.proofs.Seen.{steps_seen}

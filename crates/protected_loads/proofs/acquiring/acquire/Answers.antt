@@ -1,6 +1,6 @@
 use Rattle.std.proofs.Common.{refl, ap, ◌∙◌}
 use Rattle.std.specs.Prelude.{Some}
-use Rattle.core_events.specs.declared.outcome.Outcome.TheVariants as outcome
+use Rattle.control_word.specs.core_events.declared.outcome.Outcome.TheVariants as outcome
 use Rattle.protected_loads.proofs.Checking.{may_check}
 use Rattle.protected_loads.proofs.Looking.{announces, finds_null, may_announce}
 use Rattle.protected_loads.proofs.Protecting.{may_release, missed, protected}

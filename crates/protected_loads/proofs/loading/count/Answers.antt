@@ -1,7 +1,7 @@
 use Rattle.std.proofs.Common.{◌<◌, subst}
-use Rattle.plain_state.specs.declared.slot.Kind.{Kind}
-use Rattle.plain_state.specs.Lists.{entry_times}
-use Rattle.core_events.specs.Views.{snapshots}
+use Rattle.control_word.specs.plain_state.declared.slot.Kind.{Kind}
+use Rattle.control_word.specs.plain_state.Lists.{entry_times}
+use Rattle.control_word.specs.core_events.Views.{snapshots}
 use Rattle.protected_loads.proofs.Counted.{up_under_snapshot}
 use Rattle.protected_loads.proofs.loading.count.Goals as goal
 

@@ -1,8 +1,8 @@
 use Rattle.std.proofs.Common.{◌<◌, subst, sym}
 use Rattle.std.specs.Prelude.{Some}
-use Rattle.plain_state.specs.declared.slot.Kind.{Kind}
-use Rattle.plain_state.specs.Lists.{entry_times}
-use Rattle.core_events.specs.Views.{snapshots}
+use Rattle.control_word.specs.plain_state.declared.slot.Kind.{Kind}
+use Rattle.control_word.specs.plain_state.Lists.{entry_times}
+use Rattle.control_word.specs.core_events.Views.{snapshots}
 use Rattle.protected_loads.proofs.Referring.{loaded, may_release, snapshot_there}
 use Rattle.protected_loads.proofs.Remaining.{loaded_notes, loaded_owned, loaded_room}
 use Rattle.protected_loads.proofs.loading.load_once.Goals as goal

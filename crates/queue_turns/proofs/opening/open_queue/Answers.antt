@@ -1,8 +1,8 @@
 use Rattle.std.proofs.Common.{◌∙◌, ap, arith, subst, sym}
-use Rattle.core_events.specs.Runs.{IsShape}
-use Rattle.acquire_retire.specs.Seats.{SeatState}
-use Rattle.queue_law.specs.declared.view.View.{View}
-use Rattle.queue_law.specs.Views.{view_of}
+use Rattle.turn_loops.specs.core_events.Runs.{IsShape}
+use Rattle.turn_loops.specs.acquire_retire.Seats.{SeatState}
+use Rattle.linked_queue.specs.queue_law.declared.view.View.{View}
+use Rattle.linked_queue.specs.queue_law.Views.{view_of}
 use Rattle.turn_loops.proofs.Placings.{all_of_threads, opened_are, opened_enough, root_free, workers_free}
 use Rattle.queue_turns.specs.Queueing.{IsFreeToQueue}
 use Rattle.queue_turns.proofs.Opened.{all_free, root_lays}

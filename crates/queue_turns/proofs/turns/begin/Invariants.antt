@@ -1,5 +1,5 @@
 use Rattle.std.specs.Prelude.{◌<◌}
-use Rattle.plain_state.specs.Lists.{times}
+use Rattle.turn_loops.specs.plain_state.Lists.{times}
 use Rattle.queue_turns.specs.Queueing.{IsReadyToQueue}
 use Rattle.queue_turns.proofs.turns.begin.Given as goal
 

@@ -1,5 +1,5 @@
 use Rattle.linked_queue.proofs.NewNodes.{node_ready}
-use Rattle.queue_protocol.specs.Nodes.{IsNodePayload}
+use Rattle.linked_queue.specs.queue_protocol.Nodes.{IsNodePayload}
 use Rattle.queue_turns.proofs.turns.make_item.Goals as goal
 
 pub make-requires-clause-deed : goal.make-requires-clause-deed

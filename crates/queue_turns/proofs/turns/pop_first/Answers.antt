@@ -1,5 +1,5 @@
 use Rattle.std.proofs.Common.{ap, subst, sym}
-use Rattle.plain_state.specs.Lists.{times}
+use Rattle.turn_loops.specs.plain_state.Lists.{times}
 use Rattle.linked_queue.specs.Queues.{IsAttached}
 use Rattle.queue_turns.proofs.Carried.{as_before, dropped_owned}
 use Rattle.queue_turns.proofs.turns.pop_first.Goals as goal

@@ -1,5 +1,5 @@
 use Rattle.std.proofs.Common.{ap, ◌∙◌}
-use Rattle.plain_state.specs.Lists.{times}
+use Rattle.turn_loops.specs.plain_state.Lists.{times}
 use Rattle.queue_turns.proofs.Carried.{as_before_named, copied_owned, dropped_owned}
 use Rattle.queue_turns.proofs.turns.push_copy.Goals as goal
 

@@ -1,6 +1,6 @@
 use Rattle.std.proofs.Common.{arith, ◌<◌, ◌∙◌, subst, sym}
-use Rattle.plain_state.specs.Lists.{times}
-use Rattle.core_events.specs.Views.{without}
+use Rattle.atomic_shared.specs.plain_state.Lists.{times}
+use Rattle.slot_store.specs.core_events.Views.{without}
 use Rattle.directory_calls.proofs.Parts.{place_of}
 use Rattle.record_making.specs.Making.{HasTwo, Links}
 use Rattle.record_making.proofs.Noted.{misses_on}

@@ -2,8 +2,8 @@ use Rattle.std.proofs.Common.{arith, refl, ◌-◌, ◌*◌, ◌∙◌, length, 
 use Rattle.std.proofs.lemmas.Result.{err_from_is_err_and}
 use Rattle.directory_calls.specs.Steps.{Leaves, handle_by, with_found}
 use Rattle.directory_calls.proofs.Parts.{place_of}
-use Rattle.directory_law.specs.Bytes.{IsPiece}
-use Rattle.directory_law.specs.Payloads.{IsPart}
+use Rattle.directory_calls.specs.directory_law.Bytes.{IsPiece}
+use Rattle.directory_calls.specs.directory_law.Payloads.{IsPart}
 use Rattle.record_making.specs.Texts.{parts_after}
 use Rattle.record_making.proofs.Packed.{part_at_is, part_piece}
 use Rattle.record_making.proofs.Noted.{misses_after, on_err, same_refusal}

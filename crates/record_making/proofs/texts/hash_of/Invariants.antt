@@ -1,5 +1,5 @@
 use Rattle.std.proofs.Common.{◌≡◌, ◌<◌, ◌^◌, drop}
-use Rattle.directory_law.specs.Places.{hash_on}
+use Rattle.directory_calls.specs.directory_law.Places.{hash_on}
 use Rattle.record_making.proofs.texts.hash_of.Given as goal
 
 abbrev pub invariant-loop-byte : goal.invariant-loop-byte

@@ -1,4 +1,4 @@
-use Rattle.core_events.specs.ShownSteps.{is_ripe_field}
+use Rattle.control_word.specs.core_events.ShownSteps.{is_ripe_field}
 use Rattle.retiring_stores.proofs.Afterwards.{can_give, either_keeps, exchanges, has_room, knows, rests_mid}
 use Rattle.retiring_stores.proofs.Putting.{swap_puts}
 use Rattle.retiring_stores.proofs.exchanging.exchange.Goals as goal

@@ -1,6 +1,6 @@
 use Rattle.std.proofs.Common.{◌∙◌, refl, ap, map, string_bytes, rules}
 use Rattle.std.proofs.lemmas.List.{map_push}
-use Rattle.plain_state.specs.declared.slot.SlotId.{SlotId}
+use Rattle.plain_audit.specs.plain_state.declared.slot.SlotId.{SlotId}
 use Rattle.script_desk.specs.Desks.{maker_at}
 use Rattle.script_desk.proofs.Ranking.{mapped_all, mapped_more}
 use Rattle.script_desk.proofs.makers.makers_of.Goals as goal

@@ -1,7 +1,7 @@
 use Rattle.std.proofs.Common.{true, false, ◌≡◌, ℕ, ◌+◌, ap, sym, ◌∙◌, subst, arith}
 use Rattle.std.specs.Prelude.{◌==◌}
-use Rattle.core_events.specs.declared.shape.Shape.{Shape}
-use Rattle.core_events.specs.Words.{bit_in}
+use Rattle.claim_law.specs.core_events.declared.shape.Shape.{Shape}
+use Rattle.claim_law.specs.core_events.Words.{bit_in}
 use Rattle.slot_store.specs.Searching.{Claims}
 use Rattle.slot_store.specs.Turns.{IsAtTurn}
 use Rattle.slot_store.proofs.Exhausting.{more_makes}

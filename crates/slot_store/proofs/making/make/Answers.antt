@@ -1,7 +1,7 @@
 use Rattle.std.proofs.Common.{ap, refl, sym, subst}
-use Rattle.core_events.specs.declared.view.CoreView.{CoreView}
-use Rattle.control_word.proofs.Owning.{some_more}
-use Rattle.plain_state.specs.declared.slot.SlotId.{SlotId}
+use Rattle.claim_law.specs.core_events.declared.view.CoreView.{CoreView}
+use Rattle.retiring_stores.proofs.Below.control_word.Owning.{some_more}
+use Rattle.protocol_pairs.specs.plain_state.declared.slot.SlotId.{SlotId}
 use Rattle.slot_store.specs.Calls.{Makes}
 use Rattle.slot_store.proofs.Beginning.{apart, begins, is_of_bare, is_of_blank, is_of_full}
 use Rattle.slot_store.proofs.Searches.{still_rests}

@@ -1,6 +1,6 @@
 use Rattle.std.proofs.Common.{ℕ, subst, sym, ◌∙◌}
 use Rattle.std.specs.Prelude.{Option}
-use Rattle.control_word.specs.Moves.{KnowsStill}
+use Rattle.protected_loads.specs.control_word.Moves.{KnowsStill}
 use Rattle.snapshot_ptr.specs.Ending.{GivesUp, without_held}
 use Rattle.snapshot_ptr.specs.Handles.{IsHeldBy}
 use Rattle.snapshot_ptr.proofs.Released.{released}

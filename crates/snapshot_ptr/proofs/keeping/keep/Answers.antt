@@ -1,11 +1,11 @@
 use Rattle.std.proofs.Common.{ap, ◌∙◌, ◌++◌, ◌∷◌, [], arith, subst, sym}
-use Rattle.core_events.specs.declared.view.CoreView.{CoreView}
-use Rattle.core_events.specs.declared.act.Act.TheVariants as act
-use Rattle.core_events.specs.declared.outcome.Outcome.TheVariants as outcome
-use Rattle.core_events.specs.Views.{Holds}
-use Rattle.acquire_retire.specs.Collecting.{move}
-use Rattle.control_word.proofs.Gaining.{counted, up}
-use Rattle.control_word.proofs.Owning.{some_more}
+use Rattle.protected_loads.specs.core_events.declared.view.CoreView.{CoreView}
+use Rattle.protected_loads.specs.core_events.declared.act.Act.TheVariants as act
+use Rattle.protected_loads.specs.core_events.declared.outcome.Outcome.TheVariants as outcome
+use Rattle.protected_loads.specs.core_events.Views.{Holds}
+use Rattle.protected_loads.specs.acquire_retire.Collecting.{move}
+use Rattle.protected_loads.proofs.Below.control_word.Gaining.{counted, up}
+use Rattle.protected_loads.proofs.Below.control_word.Owning.{some_more}
 use Rattle.snapshot_ptr.specs.Handles.{StaysUnder}
 use Rattle.snapshot_ptr.proofs.Staying.{stays_with_strong}
 use Rattle.snapshot_ptr.proofs.Under.{has_strongly}

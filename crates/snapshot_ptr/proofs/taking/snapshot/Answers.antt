@@ -1,8 +1,8 @@
 use Rattle.std.proofs.Common.{◌≡◌, ℕ, refl, sym, subst, ◌∙◌}
 use Rattle.std.specs.Prelude.{IfSome, Option}
-use Rattle.plain_state.specs.declared.act.EventPlace.{EventPlace}
-use Rattle.plain_state.specs.declared.slot.SlotId.{SlotId}
-use Rattle.acquire_retire.specs.Notes.{least_free}
+use Rattle.protected_loads.specs.plain_state.declared.act.EventPlace.{EventPlace}
+use Rattle.protected_loads.specs.plain_state.declared.slot.SlotId.{SlotId}
+use Rattle.protected_loads.specs.acquire_retire.Notes.{least_free}
 use Rattle.protected_loads.specs.Retries.{AtLast, IsReadyToReacquire}
 use Rattle.atomic_shared.specs.Places.{strong_place}
 use Rattle.atomic_shared.proofs.StoredNames.{strong_kind}

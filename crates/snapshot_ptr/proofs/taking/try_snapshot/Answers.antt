@@ -1,8 +1,8 @@
 use Rattle.std.proofs.Common.{◌≡◌, ℕ, refl, ap, sym, subst, ◌∙◌}
 use Rattle.std.specs.Prelude.{Err, IfSome, Ok, Option}
-use Rattle.plain_state.specs.declared.act.EventPlace.{EventPlace}
-use Rattle.plain_state.specs.declared.slot.SlotId.{SlotId}
-use Rattle.acquire_retire.specs.Notes.{least_free}
+use Rattle.protected_loads.specs.plain_state.declared.act.EventPlace.{EventPlace}
+use Rattle.protected_loads.specs.plain_state.declared.slot.SlotId.{SlotId}
+use Rattle.protected_loads.specs.acquire_retire.Notes.{least_free}
 use Rattle.protected_loads.specs.Loads.{IsReadyToAcquire, Misses}
 use Rattle.protected_loads.proofs.Remaining.{acquires}
 use Rattle.atomic_shared.specs.Places.{strong_place}

@@ -1,5 +1,5 @@
 use Rattle.std.proofs.Common.{arith}
-use Rattle.plain_state.specs.declared.slot.Kind.{Kind}
+use Rattle.core_events.specs.plain_state.declared.slot.Kind.{Kind}
 use Rattle.step_lines.specs.Beyond.{IsBeyondSlot, IsTooLarge}
 use Rattle.step_lines.proofs.Readings.{reads_both, Both, OneOf}
 use Rattle.step_lines.proofs.Rows.{announce_refused}

@@ -1,5 +1,5 @@
 use Rattle.std.specs.Prelude.{◌≡◌, ◌≤◌, ◌+◌, ◌*◌, ◌-◌, ◌++◌, drop, take}
-use Rattle.directory_law.specs.Bytes.{bytes_of_words, piece_bytes}
+use Rattle.directory_calls.specs.directory_law.Bytes.{bytes_of_words, piece_bytes}
 use Rattle.text_reading.proofs.copying.put_payload.Given as goal
 
 abbrev pub invariant-loop-word : goal.invariant-loop-word

@@ -1,5 +1,5 @@
 use Rattle.std.specs.Prelude.{◌≡◌, ◌+◌, ◌-◌, ◌++◌, take}
-use Rattle.directory_law.specs.Bytes.{low_bytes}
+use Rattle.directory_calls.specs.directory_law.Bytes.{low_bytes}
 use Rattle.text_reading.proofs.copying.put_word.Given as goal
 
 abbrev pub invariant-loop-index : goal.invariant-loop-index

@@ -1,5 +1,5 @@
 use Rattle.std.proofs.Common.{ap, ◌∙◌}
-use Rattle.core_events.specs.declared.outcome.Outcome.TheVariants as outcome
+use Rattle.slot_store.specs.core_events.declared.outcome.Outcome.TheVariants as outcome
 use Rattle.directory_calls.proofs.Parts.{place_of}
 use Rattle.text_reading.proofs.Protected.{four, goes, knows, learns, may_look_again, may_tell, not_null, reads, ready_check, ready_look, rests}
 use Rattle.text_reading.proofs.going_on.protect_part.Goals as goal

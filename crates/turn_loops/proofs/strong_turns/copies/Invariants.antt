@@ -1,7 +1,7 @@
-use Rattle.core_events.specs.Steps.{HasRoom}
-use Rattle.control_word.specs.Resting.{IsAtRest}
+use Rattle.slot_store.specs.core_events.Steps.{HasRoom}
+use Rattle.slot_store.specs.control_word.Resting.{IsAtRest}
 use Rattle.std.specs.Prelude.{◌<◌}
-use Rattle.plain_state.specs.Lists.{times}
+use Rattle.snapshot_ptr.specs.plain_state.Lists.{times}
 use Rattle.turn_loops.proofs.strong_turns.copies.Given as goal
 
 abbrev pub invariant-loop-turn : goal.invariant-loop-turn

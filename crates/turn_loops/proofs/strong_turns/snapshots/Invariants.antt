@@ -1,5 +1,5 @@
-use Rattle.core_events.specs.Steps.{HasRoom}
-use Rattle.control_word.specs.Resting.{IsAtRest}
+use Rattle.slot_store.specs.core_events.Steps.{HasRoom}
+use Rattle.slot_store.specs.control_word.Resting.{IsAtRest}
 use Rattle.turn_loops.proofs.strong_turns.snapshots.Given as goal
 
 abbrev pub invariant-loop-turn : goal.invariant-loop-turn

@@ -1,11 +1,11 @@
 use Rattle.std.proofs.Common.{refl, subst, sym, ◌∙◌}
-use Rattle.directory_law.specs.Law.{IsBound}
-use Rattle.directory_law.specs.Payloads.{Text}
-use Rattle.directory_calls.specs.Steps.{AtStep}
+use Rattle.record_making.specs.directory_law.Law.{IsBound}
+use Rattle.record_making.specs.directory_law.Payloads.{Text}
+use Rattle.record_making.specs.directory_calls.Steps.{AtStep}
 use Rattle.weak_intern.specs.Seeing.{HasSeenIn}
-use Rattle.directory_calls.specs.Directories.{area_of}
-use Rattle.directory_calls.proofs.Parts.{place_of}
-use Rattle.directory_law.proofs.Bytes.{text_is}
+use Rattle.record_making.specs.directory_calls.Directories.{area_of}
+use Rattle.record_making.proofs.Below.directory_calls.Parts.{place_of}
+use Rattle.record_making.proofs.Below.directory_law.Bytes.{text_is}
 use Rattle.record_making.specs.Texts.{text_of}
 use Rattle.record_making.proofs.Dropped.{adds_still, dropped, makes_still}
 use Rattle.text_reading.specs.Reading.{HasRead}

@@ -1,5 +1,5 @@
 use Rattle.std.proofs.Common.{subst, sym, take}
-use Rattle.directory_law.specs.Payloads.{IsHead}
+use Rattle.record_making.specs.directory_law.Payloads.{IsHead}
 use Rattle.weak_intern.proofs.Same.{head_sought, same_text}
 use Rattle.weak_intern.proofs.confirming.has_text.Goals as goal
 

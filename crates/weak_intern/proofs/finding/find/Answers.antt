@@ -1,11 +1,11 @@
 use Rattle.std.proofs.Common.{ap, arith, length, refl, subst, take}
-use Rattle.directory_calls.specs.Directories.{area_of}
+use Rattle.record_making.specs.directory_calls.Directories.{area_of}
 use Rattle.record_making.specs.Texts.{payload_of, text_of}
 use Rattle.record_making.proofs.Packed.{is_text_of}
 use Rattle.weak_intern.specs.Walking.{CostsBy}
 use Rattle.weak_intern.proofs.Heads.{sought_is}
 use Rattle.weak_intern.proofs.Answered.{came_to_none, came_to_record}
-use Rattle.core_events.specs.declared.view.CoreView.{CoreView}
+use Rattle.atomic_weak.specs.core_events.declared.view.CoreView.{CoreView}
 use Rattle.weak_intern.proofs.Races.{few_left}
 use Rattle.weak_intern.proofs.finding.find.Goals as goal
 

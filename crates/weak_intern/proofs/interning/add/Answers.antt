@@ -1,15 +1,15 @@
 use Rattle.weak_intern.proofs.Sights.{free_still}
 use Rattle.std.proofs.Common.{ap, arith, inl, length, refl, ◌∙◌, Some, None}
 use Rattle.std.specs.Prelude.{Ok}
-use Rattle.directory_calls.specs.Directories.{area_of}
+use Rattle.record_making.specs.directory_calls.Directories.{area_of}
 use Rattle.record_making.specs.Texts.{text_of}
 use Rattle.record_making.proofs.Noted.{on_err, same_refusal}
 use Rattle.record_making.proofs.Dropped.{dropped, makes_still}
 use Rattle.weak_intern.proofs.Added.{dropped_known, dropped_leaves, dropped_places, err_grows, err_leaves, found_some, is_err, knows_still, noted_made, ok_grows, ok_leaves, ok_places, owned_then, passed_made, placed_knows, quota_made, refused_grows}
-use Rattle.directory_calls.proofs.Parts.{place_of}
+use Rattle.record_making.proofs.Below.directory_calls.Parts.{place_of}
 use Rattle.weak_intern.proofs.Placed.{grows_as}
 use Rattle.std.specs.Int.{div_ceil}
-use Rattle.core_events.specs.declared.view.CoreView.{CoreView}
+use Rattle.atomic_weak.specs.core_events.declared.view.CoreView.{CoreView}
 use Rattle.weak_intern.proofs.Races.{few_left, short_on, short_then}
 use Rattle.weak_intern.proofs.interning.add.Goals as goal
 

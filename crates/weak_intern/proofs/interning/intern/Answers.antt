@@ -1,17 +1,17 @@
 use Rattle.weak_intern.proofs.Sights.{free_still}
 use Rattle.std.proofs.Common.{ap, arith, inl, length, refl, ◌+◌, ◌∙◌}
 use Rattle.std.specs.Prelude.{Ok}
-use Rattle.directory_calls.specs.Directories.{area_of}
+use Rattle.record_making.specs.directory_calls.Directories.{area_of}
 use Rattle.weak_intern.specs.Interning.{interned_by}
-use Rattle.directory_calls.specs.Steps.{handle_by}
+use Rattle.record_making.specs.directory_calls.Steps.{handle_by}
 use Rattle.record_making.specs.Texts.{text_of}
 use Rattle.record_making.proofs.Noted.{misses_after}
 use Rattle.record_making.proofs.Packed.{is_text_of}
 use Rattle.weak_intern.proofs.Heads.{sought_is}
 use Rattle.weak_intern.proofs.Interned.{absent_learns, absent_leaves, absent_none, added_grows, added_leaves, added_none, all_interns, all_knows, answered_owned, walked_interns, walked_knows, walked_owned}
-use Rattle.directory_calls.proofs.Parts.{place_of}
+use Rattle.record_making.proofs.Below.directory_calls.Parts.{place_of}
 use Rattle.std.specs.Int.{div_ceil}
-use Rattle.core_events.specs.declared.view.CoreView.{CoreView}
+use Rattle.atomic_weak.specs.core_events.declared.view.CoreView.{CoreView}
 use Rattle.weak_intern.proofs.Races.{few_left, short_then}
 use Rattle.weak_intern.proofs.interning.intern.Goals as goal
 

@@ -1,4 +1,4 @@
-use Rattle.directory_calls.specs.Directories.{area_of}
+use Rattle.record_making.specs.directory_calls.Directories.{area_of}
 use Rattle.record_making.specs.Texts.{text_of}
 use Rattle.weak_intern.proofs.Placed.{Enters}
 use Rattle.weak_intern.proofs.interning.place.Given as goal

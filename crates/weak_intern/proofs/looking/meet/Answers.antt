@@ -1,8 +1,8 @@
 use Rattle.std.proofs.Common.{ap, inl, ◌∙◌, None, arith, refl}
-use Rattle.directory_calls.specs.Directories.{area_of}
-use Rattle.directory_calls.proofs.Parts.{place_of}
+use Rattle.record_making.specs.directory_calls.Directories.{area_of}
+use Rattle.record_making.proofs.Below.directory_calls.Parts.{place_of}
 use Rattle.record_making.specs.Texts.{text_of}
-use Rattle.core_events.specs.declared.view.CoreView.{CoreView}
+use Rattle.atomic_weak.specs.core_events.declared.view.CoreView.{CoreView}
 use Rattle.weak_intern.specs.Walking.{met_by}
 use Rattle.weak_intern.proofs.LetGo.{sighted_held}
 use Rattle.weak_intern.proofs.Meeting.{is_not, other_met}

@@ -1,5 +1,5 @@
 use Rattle.std.specs.Prelude.{◌≤◌, length}
-use Rattle.directory_calls.specs.Directories.{area_of}
+use Rattle.record_making.specs.directory_calls.Directories.{area_of}
 use Rattle.record_making.specs.Texts.{text_of}
 use Rattle.weak_intern.proofs.Found.{Walks}
 use Rattle.weak_intern.proofs.walking.seek.Given as goal

@@ -1,15 +1,15 @@
 use Rattle.std.proofs.Common.{◌≡◌, ℕ, sym, subst}
-use Rattle.protocol_pairs.specs.Parts.{Accepts}
-use Rattle.protocol_pairs.specs.Shares.{owned_of}
+use Rattle.part_calls.specs.protocol_pairs.Parts.{Accepts}
+use Rattle.part_calls.specs.protocol_pairs.Shares.{owned_of}
 use Rattle.part_calls.specs.Parts.{as_part, seen_by}
 use Rattle.part_calls.proofs.Seen.{lifted_allows, part_seen}
 use Rattle.std.specs.Prelude.{Err, IfOk}
-use Rattle.acquire_retire.proofs.Wholes.{then_ok}
-use Rattle.core_events.specs.Words.{slot_in}
-use Rattle.counted_handles.specs.declared.refusal.LoadError.TheVariants as refused
+use Rattle.control_word.proofs.Below.acquire_retire.Wholes.{then_ok}
+use Rattle.control_word.specs.core_events.Words.{slot_in}
+use Rattle.control_word.specs.counted_handles.declared.refusal.LoadError.TheVariants as refused
 use Rattle.atomic_weak.specs.Places.{named, weak_place}
-use Rattle.protected_loads.specs.Loads.{Misses}
-use Rattle.protected_loads.specs.References.{IsReadyToLoad, Loads}
+use Rattle.atomic_weak.specs.protected_loads.Loads.{Misses}
+use Rattle.atomic_weak.specs.protected_loads.References.{IsReadyToLoad, Loads}
 use Rattle.weak_part_calls.proofs.WeakCalls.{weak_load_beside}
 use Rattle.part_calls.proofs.Readiness.{load_ready}
 use Rattle.part_calls.proofs.SeenCalls.{loads_seen, misses_seen}

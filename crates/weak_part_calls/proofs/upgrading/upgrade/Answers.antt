@@ -1,10 +1,10 @@
 use Rattle.std.proofs.Common.{◌≡◌, sym, subst}
 use Rattle.std.specs.Prelude.{Err, IfOk}
-use Rattle.protocol_pairs.specs.Parts.{Accepts}
-use Rattle.protocol_pairs.specs.Shares.{owned_of}
-use Rattle.core_events.specs.declared.act.Act.TheVariants as act
-use Rattle.acquire_retire.specs.Calls.{IsReady}
-use Rattle.acquire_retire.proofs.Wholes.{then_ok}
+use Rattle.part_calls.specs.protocol_pairs.Parts.{Accepts}
+use Rattle.part_calls.specs.protocol_pairs.Shares.{owned_of}
+use Rattle.control_word.specs.core_events.declared.act.Act.TheVariants as act
+use Rattle.control_word.specs.acquire_retire.Calls.{IsReady}
+use Rattle.control_word.proofs.Below.acquire_retire.Wholes.{then_ok}
 use Rattle.control_word.specs.declared.upgrading.UpgradeError.TheVariants as refused
 use Rattle.control_word.specs.Calls.{FindsEnded, GainsStrong}
 use Rattle.part_calls.specs.Parts.{as_part, seen_by}

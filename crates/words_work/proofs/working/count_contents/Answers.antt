@@ -1,11 +1,11 @@
 use Rattle.std.proofs.Common.{ℕ, ◌<◌, List, map, ap, subst, ◌∙◌}
-use Rattle.cdrc_text.specs.Fold.{File}
-use Rattle.cdrc_text.specs.Pieces.{pieces_of}
-use Rattle.cdrc_text.specs.Text.{IsReport}
-use Rattle.lane_domain.specs.Sizes.{texts_in}
-use Rattle.protocol_pairs.specs.Shares.{FitsItsPart}
-use Rattle.queue_protocol.specs.Nodes.{IsNodePayload}
-use Rattle.directory_law.specs.Bytes.{IsPiece}
+use Rattle.lane_reports.specs.cdrc_text.Fold.{File}
+use Rattle.lane_reports.specs.cdrc_text.Pieces.{pieces_of}
+use Rattle.lane_reports.specs.cdrc_text.Text.{IsReport}
+use Rattle.lane_reports.specs.lane_domain.Sizes.{texts_in}
+use Rattle.lane_reports.specs.protocol_pairs.Shares.{FitsItsPart}
+use Rattle.lane_reports.specs.queue_protocol.Nodes.{IsNodePayload}
+use Rattle.lane_reports.specs.directory_law.Bytes.{IsPiece}
 use Rattle.lane_reports.specs.Refusals.{IsWhyNothing}
 use Rattle.lane_reports.specs.Reporting.{IsLast}
 use Rattle.lane_reports.specs.declared.counted.CountError.{CountError}

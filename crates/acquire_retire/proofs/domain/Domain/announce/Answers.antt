@@ -1,5 +1,5 @@
 use Rattle.std.proofs.Common.{refl, ap, ◌∙◌, Some}
-use Rattle.core_events.specs.declared.act.Act.TheVariants as act
+use Rattle.core_promises.specs.core_events.declared.act.Act.TheVariants as act
 use Rattle.acquire_retire.specs.Seats.{SeatState}
 use Rattle.acquire_retire.proofs.Calls.{call_tells, can_still, seat_after}
 use Rattle.acquire_retire.proofs.Noting.{announced_kept, announces}

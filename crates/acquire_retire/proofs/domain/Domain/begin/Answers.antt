@@ -1,5 +1,5 @@
 use Rattle.std.proofs.Common.{◌≡◌, rules}
-use Rattle.core_events.specs.Words.{first_words}
+use Rattle.core_promises.specs.core_events.Words.{first_words}
 use Rattle.acquire_retire.proofs.Openings.{begun_domain, begun_kept, same_terms}
 use Rattle.acquire_retire.proofs.domain.Domain.begin.Goals as goal
 

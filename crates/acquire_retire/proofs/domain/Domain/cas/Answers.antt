@@ -1,8 +1,8 @@
 use Rattle.std.proofs.Common.{ap, sym, ◌∙◌}
 use Rattle.plain_state.specs.Places.{place_kind}
 use Rattle.plain_state.specs.Steps.{joined}
-use Rattle.core_events.specs.declared.act.Act.TheVariants as act
-use Rattle.core_events.specs.Words.{slot_in}
+use Rattle.core_promises.specs.core_events.declared.act.Act.TheVariants as act
+use Rattle.core_promises.specs.core_events.Words.{slot_in}
 use Rattle.acquire_retire.specs.Seats.{SeatState, Stored}
 use Rattle.acquire_retire.proofs.Calls.{can_step, cas_done, cas_lost, seat_after}
 use Rattle.acquire_retire.proofs.Contents.{found_small, cas_on}

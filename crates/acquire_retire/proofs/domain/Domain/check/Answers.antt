@@ -1,5 +1,5 @@
 use Rattle.std.proofs.Common.{ap, ◌∙◌}
-use Rattle.core_events.specs.declared.act.Act.TheVariants as act
+use Rattle.core_promises.specs.core_events.declared.act.Act.TheVariants as act
 use Rattle.acquire_retire.specs.Seats.{SeatState}
 use Rattle.acquire_retire.proofs.Calls.{can_step, seat_after}
 use Rattle.acquire_retire.proofs.Contents.{found_small, check_on}

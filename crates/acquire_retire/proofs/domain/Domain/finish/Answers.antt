@@ -1,8 +1,8 @@
 use Rattle.std.proofs.Common.{Option, ap, rules, sym, ◌++◌, ◌∙◌}
 use Rattle.plain_state.specs.declared.slot.SlotId.{SlotId}
-use Rattle.core_events.specs.declared.act.Act.TheVariants as act
-use Rattle.core_events.specs.Steps.{moved}
-use Rattle.core_events.specs.Views.{alone, slot_of}
+use Rattle.core_promises.specs.core_events.declared.act.Act.TheVariants as act
+use Rattle.core_promises.specs.core_events.Steps.{moved}
+use Rattle.core_promises.specs.core_events.Views.{alone, slot_of}
 use Rattle.acquire_retire.specs.Seats.{Stored}
 use Rattle.acquire_retire.proofs.Calls.{call_tells, can_still, kept}
 use Rattle.acquire_retire.proofs.Dying.{room_to_end, seat_ended}

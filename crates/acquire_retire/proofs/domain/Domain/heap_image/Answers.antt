@@ -5,9 +5,9 @@ use Rattle.plain_state.specs.declared.slot.SlotId.{SlotId}
 use Rattle.plain_state.specs.declared.image.Heap.{Heap}
 use Rattle.plain_state.specs.Images.{image_at}
 use Rattle.plain_state.specs.State.{Plain}
-use Rattle.core_events.specs.declared.shape.Shape.{Shape}
-use Rattle.core_events.specs.Words.{each_from}
-use Rattle.core_events.specs.Words.{place_at}
+use Rattle.core_promises.specs.core_events.declared.shape.Shape.{Shape}
+use Rattle.core_promises.specs.core_events.Words.{each_from}
+use Rattle.core_promises.specs.core_events.Words.{place_at}
 use Rattle.acquire_retire.specs.Domains.{DomainState}
 use Rattle.acquire_retire.specs.Wholes.{IsSame, known_core, known_word}
 use Rattle.acquire_retire.proofs.Images.{heap_words, same_state, same_words}

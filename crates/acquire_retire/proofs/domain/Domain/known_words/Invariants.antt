@@ -1,5 +1,5 @@
 use Rattle.std.proofs.Common.{◌≡◌, ◌+◌, ◌≤◌, vec_capacity, vec_len}
-use Rattle.core_events.specs.Words.{each_from}
+use Rattle.core_promises.specs.core_events.Words.{each_from}
 use Rattle.acquire_retire.specs.Wholes.{IsSame, known_word}
 use Rattle.acquire_retire.proofs.domain.Domain.known_words.Given as goal
 

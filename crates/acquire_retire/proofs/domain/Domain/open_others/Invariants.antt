@@ -1,5 +1,5 @@
 use Rattle.std.proofs.Common.{◌≡◌, ◌+◌, vec_capacity, vec_len}
-use Rattle.core_events.specs.Words.{each_from}
+use Rattle.core_promises.specs.core_events.Words.{each_from}
 use Rattle.acquire_retire.specs.Openings.{IsFirst, begun_seat}
 use Rattle.acquire_retire.proofs.domain.Domain.open_others.Given as goal
 

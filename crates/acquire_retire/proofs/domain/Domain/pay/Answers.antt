@@ -1,5 +1,5 @@
 use Rattle.std.proofs.Common.{rules}
-use Rattle.core_events.specs.declared.act.Act.TheVariants as act
+use Rattle.core_promises.specs.core_events.declared.act.Act.TheVariants as act
 use Rattle.acquire_retire.proofs.Calls.{call_tells, can_still}
 use Rattle.acquire_retire.proofs.domain.Domain.pay.Goals as goal
 

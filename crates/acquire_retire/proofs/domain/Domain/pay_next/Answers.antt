@@ -1,4 +1,4 @@
-use Rattle.core_events.specs.declared.outcome.Outcome.TheVariants as outcome
+use Rattle.core_promises.specs.core_events.declared.outcome.Outcome.TheVariants as outcome
 use Rattle.acquire_retire.specs.declared.payment.Payment.TheVariants as payment
 use Rattle.acquire_retire.proofs.Payments.{finish_lost, finish_step, free_step, idle_after_finish, idle_after_free, idle_after_pay, idle_after_take, part_append, pay_step, pays_one, take_no_help, take_step}
 use Rattle.acquire_retire.proofs.domain.Domain.pay_next.Goals as goal

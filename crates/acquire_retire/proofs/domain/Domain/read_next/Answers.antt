@@ -1,6 +1,6 @@
 use Rattle.std.proofs.Common.{rules, ap, ◌∙◌}
-use Rattle.core_events.specs.declared.act.Act.TheVariants as act
-use Rattle.core_events.specs.Steps.{is_last}
+use Rattle.core_promises.specs.core_events.declared.act.Act.TheVariants as act
+use Rattle.core_promises.specs.core_events.Steps.{is_last}
 use Rattle.acquire_retire.specs.Seats.{SeatState}
 use Rattle.acquire_retire.proofs.Calls.{call_tells, can_still}
 use Rattle.acquire_retire.proofs.Scans.{reads_word, room_to_read}

@@ -1,5 +1,5 @@
 use Rattle.std.proofs.Common.{◌∙◌, ap, length, length-append, arith, [], ◌∷◌, ◌++◌}
-use Rattle.core_events.specs.declared.shape.Shape.{Shape}
+use Rattle.core_promises.specs.core_events.declared.shape.Shape.{Shape}
 use Rattle.acquire_retire.specs.Domains.{DomainState}
 use Rattle.acquire_retire.proofs.Collects.{is_of_after}
 use Rattle.acquire_retire.proofs.Readings.{not_last, reads_more}

@@ -1,6 +1,6 @@
 use Rattle.std.proofs.Common.{◌≡◌, ◌≤◌, vec_capacity, vec_len}
 use Rattle.plain_state.specs.Images.{image_at}
-use Rattle.core_events.specs.Words.{each_from}
+use Rattle.core_promises.specs.core_events.Words.{each_from}
 use Rattle.acquire_retire.specs.Wholes.{IsSame, known_state}
 use Rattle.acquire_retire.proofs.domain.Domain.slot_images.Given as goal
 

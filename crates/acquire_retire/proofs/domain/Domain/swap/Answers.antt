@@ -1,4 +1,4 @@
-use Rattle.core_events.specs.declared.act.Act.TheVariants as act
+use Rattle.core_promises.specs.core_events.declared.act.Act.TheVariants as act
 use Rattle.acquire_retire.proofs.Calls.{can_step}
 use Rattle.acquire_retire.proofs.Contents.{found_small, swap_on}
 use Rattle.acquire_retire.proofs.domain.Domain.swap.Goals as goal

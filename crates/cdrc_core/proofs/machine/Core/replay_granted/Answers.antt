@@ -1,5 +1,5 @@
 use Rattle.std.proofs.Common.{◌≡◌, Err, ap, subst, rules}
-use Rattle.core_events.specs.Runs.{start}
+use Rattle.core_law.specs.core_events.Runs.{start}
 use Rattle.cdrc_core.specs.Replays.{IsFirstRefused}
 use Rattle.cdrc_core.specs.declared.errors.StepError.TheVariants.{NotEnabled, OutOfMemory}
 use Rattle.cdrc_core.proofs.FirstBad.{passed_bad}

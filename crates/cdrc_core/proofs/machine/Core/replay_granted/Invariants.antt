@@ -1,5 +1,5 @@
 use Rattle.std.proofs.Common.{◌≡◌, vec_capacity, vec_len, length}
-use Rattle.core_events.specs.Runs.{start}
+use Rattle.core_law.specs.core_events.Runs.{start}
 use Rattle.cdrc_core.proofs.Replaying.{Replayed}
 use Rattle.cdrc_core.proofs.machine.Core.replay_granted.Given as goal
 

@@ -1,6 +1,6 @@
 use Rattle.std.proofs.Common.{sym, subst}
-use Rattle.plain_state.specs.State.{Plain, seat_at}
-use Rattle.plain_state.specs.Places.{Holds}
+use Rattle.plain_protocol.specs.plain_state.State.{Plain, seat_at}
+use Rattle.plain_protocol.specs.plain_state.Places.{Holds}
 use Rattle.plain_store.proofs.Stores.{held_slot}
 use Rattle.cdrc_plain.proofs.heap.PlainHeap.counts.Goals as goal
 

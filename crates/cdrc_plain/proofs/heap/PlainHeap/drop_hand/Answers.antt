@@ -1,5 +1,5 @@
 use Rattle.std.proofs.Common.{ap}
-use Rattle.plain_state.specs.State.{Plain}
+use Rattle.plain_protocol.specs.plain_state.State.{Plain}
 use Rattle.plain_store.specs.Stores.{plain_of}
 use Rattle.plain_store.proofs.Fits.{fit_same}
 use Rattle.cdrc_plain.proofs.Watched.{restless_drop}

@@ -1,8 +1,8 @@
 use Rattle.std.proofs.Common.{ap, subst}
-use Rattle.plain_state.specs.declared.act.PlainAct.TheVariants as act
-use Rattle.plain_state.specs.declared.slot.SlotId.{SlotId}
-use Rattle.plain_state.specs.State.{Plain}
-use Rattle.plain_state.specs.Steps.{Does}
+use Rattle.plain_protocol.specs.plain_state.declared.act.PlainAct.TheVariants as act
+use Rattle.plain_protocol.specs.plain_state.declared.slot.SlotId.{SlotId}
+use Rattle.plain_protocol.specs.plain_state.State.{Plain}
+use Rattle.plain_protocol.specs.plain_state.Steps.{Does}
 use Rattle.plain_store.specs.Stores.{plain_of}
 use Rattle.plain_store.proofs.Fits.{fit_same}
 use Rattle.cdrc_plain.proofs.Watched.{restless_weak_drop}

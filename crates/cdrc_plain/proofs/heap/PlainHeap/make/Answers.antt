@@ -1,7 +1,7 @@
 use Rattle.std.proofs.Common.{◌≡◌, subst, Err}
 use Rattle.std.specs.Prelude.{◌↔◌}
 use Rattle.plain_store.specs.declared.refusal.MakeRefused.TheVariants.{Full}
-use Rattle.plain_state.specs.State.{Plain}
+use Rattle.plain_protocol.specs.plain_state.State.{Plain}
 use Rattle.plain_store.specs.Heaps.{NoneFree}
 use Rattle.plain_store.specs.Stores.{plain_of}
 use Rattle.plain_store.proofs.CallsCalm.{call_calm, makes_calm}

@@ -1,6 +1,6 @@
 use Rattle.std.proofs.Common.{subst, sym, arith, ◌∙◌}
-use Rattle.plain_state.specs.State.{Plain}
-use Rattle.plain_state.specs.Fits.{AllFit}
+use Rattle.plain_protocol.specs.plain_state.State.{Plain}
+use Rattle.plain_protocol.specs.plain_state.Fits.{AllFit}
 use Rattle.plain_store.specs.Settling.{SettlesTo}
 use Rattle.plain_store.specs.Stores.{plain_of}
 use Rattle.plain_store.proofs.Ejecting.{ejects_as_announced}

@@ -1,6 +1,6 @@
 use Rattle.std.proofs.Common.{◌≡◌, [], None, Ok, Some, ap, subst, sym, rules}
 use Rattle.std.proofs.lemmas.List.{append-nil}
-use Rattle.line_words.specs.Words.{texts_of}
+use Rattle.line_machine.specs.line_words.Words.{texts_of}
 use Rattle.cdrc_scripts.specs.Domains.{IsSettledDesk, Place, RefusesOn, TakesOn}
 use Rattle.cdrc_scripts.proofs.Taking.{settled_still}
 use Rattle.cdrc_scripts.proofs.machine.ScriptMachineLineMachineDeleterScriptKind.take.Goals as goal

@@ -1,5 +1,5 @@
 use Rattle.std.proofs.Common.{◌≡◌, ◌+◌, ◌++◌, rules, ap, ◌∙◌, Some, arith}
-use Rattle.core_events.specs.Runs.{outcome_of, Enabled}
+use Rattle.step_lines.specs.core_events.Runs.{outcome_of, Enabled}
 use Rattle.step_lines.specs.Texts.{event_text}
 use Rattle.cdrc_steps.specs.Ranges.{IsInRange}
 use Rattle.cdrc_steps.specs.Runnings.{Running}

@@ -1,6 +1,6 @@
 use Rattle.std.proofs.Common.{◌≡◌, subst, None, Err}
-use Rattle.line_words.specs.declared.reason.Reason.TheVariants.{Syntax}
-use Rattle.line_words.specs.Words.{texts_of}
+use Rattle.line_machine.specs.line_words.declared.reason.Reason.TheVariants.{Syntax}
+use Rattle.line_machine.specs.line_words.Words.{texts_of}
 use Rattle.step_lines.specs.declared.refused.EventRefused.TheVariants as refused
 use Rattle.cdrc_steps.specs.Meaning.{Refuses}
 use Rattle.cdrc_steps.proofs.running.StepMachine.begin.Goals as goal

@@ -1,6 +1,6 @@
 use Rattle.std.proofs.Common.{[], ◌∷◌, ◌++◌, sym, subst}
-use Rattle.script_lines.specs.declared.command.Command.{Command}
-use Rattle.script_lines.specs.declared.command.Command.TheVariants as command
+use Rattle.script_desk.specs.script_lines.declared.command.Command.{Command}
+use Rattle.script_desk.specs.script_lines.declared.command.Command.TheVariants as command
 use Rattle.script_desk.specs.Desks.{scope_of}
 use Rattle.script_desk.specs.Faults.{need_of, place_needs, taken_by}
 use Rattle.script_desk.specs.Handles.{is_any, is_firm, is_snapshot, is_strong, is_weak}

@@ -1,5 +1,5 @@
 use Rattle.domain_desk.proofs.Placing.{placed_so, clear_begins, clear_kept, open_here}
-use Rattle.script_lines.specs.declared.command.Command.TheVariants as command
+use Rattle.script_desk.specs.script_lines.declared.command.Command.TheVariants as command
 use Rattle.script_desk.specs.declared.said.Said.TheVariants as said
 use Rattle.domain_desk.proofs.Shown.{clear_shown, from_view}
 use Rattle.domain_desk.proofs.desk.DomainDesk.clear.Goals as goal

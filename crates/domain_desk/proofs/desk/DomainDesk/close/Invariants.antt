@@ -1,6 +1,6 @@
 use Rattle.std.proofs.Common.{length, []}
 use Rattle.std.specs.Map.{values_of}
-use Rattle.plain_settling.specs.Settling.{TidiesTo}
+use Rattle.script_desk.specs.plain_settling.Settling.{TidiesTo}
 use Rattle.lone_heap.specs.Lone.{IsReady, known_plain}
 use Rattle.lone_heap.specs.Trails.{Shows}
 use Rattle.lone_heap.specs.Words.{AreNoted}

@@ -1,7 +1,7 @@
 use Rattle.domain_desk.proofs.Placing.{holds_here, known_so}
 use Rattle.std.proofs.Common.{refl}
 use Rattle.lone_heap.specs.Trails.{counted}
-use Rattle.script_lines.specs.declared.command.Command.TheVariants as command
+use Rattle.script_desk.specs.script_lines.declared.command.Command.TheVariants as command
 use Rattle.script_desk.specs.declared.said.Said.TheVariants as said
 use Rattle.domain_desk.proofs.Shown.{from_view}
 use Rattle.domain_desk.proofs.desk.DomainDesk.counts.Goals as goal

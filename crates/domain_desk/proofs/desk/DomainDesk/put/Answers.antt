@@ -1,5 +1,5 @@
 use Rattle.domain_desk.proofs.Placing.{placed_so, known_so, gives_here, open_here, put_begins, put_kept}
-use Rattle.script_lines.specs.declared.command.Command.TheVariants as command
+use Rattle.script_desk.specs.script_lines.declared.command.Command.TheVariants as command
 use Rattle.script_desk.specs.declared.said.Said.TheVariants as said
 use Rattle.domain_desk.proofs.Shown.{from_view, put_shown}
 use Rattle.domain_desk.proofs.desk.DomainDesk.put.Goals as goal

@@ -1,7 +1,7 @@
 use Rattle.std.proofs.Common.{◌≡◌, false, true, rules}
 use Rattle.domain_desk.proofs.Placing.{held_here, open_here, placed_so, slot_so, strong_kind}
 use Rattle.domain_desk.proofs.Replacing.{done_begins, done_kept, gives_slot, lost_begins, lost_kept, tries_as}
-use Rattle.script_lines.specs.declared.command.Command.TheVariants as command
+use Rattle.script_desk.specs.script_lines.declared.command.Command.TheVariants as command
 use Rattle.script_desk.specs.declared.said.Said.TheVariants as said
 use Rattle.domain_desk.proofs.Shown.{done_shown, from_view, lost_shown}
 use Rattle.domain_desk.proofs.desk.DomainDesk.replace.Goals as goal

@@ -1,7 +1,7 @@
 use Rattle.domain_desk.proofs.Keeping.{kept_strong, named_so, owns_weak}
 use Rattle.std.proofs.Common.{Err, ap, refl, ◌∙◌}
 use Rattle.lone_heap.specs.Trails.{found_ended, upgraded}
-use Rattle.script_lines.specs.declared.command.Command.TheVariants as command
+use Rattle.script_desk.specs.script_lines.declared.command.Command.TheVariants as command
 use Rattle.script_desk.specs.declared.said.Said.TheVariants as said
 use Rattle.domain_desk.proofs.Shown.{from_view}
 use Rattle.domain_desk.proofs.desk.DomainDesk.upgrade.Goals as goal

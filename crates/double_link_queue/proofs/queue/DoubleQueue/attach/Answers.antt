@@ -1,6 +1,6 @@
 use Rattle.std.proofs.Common.{rules}
 use Rattle.std.specs.Prelude.{None}
-use Rattle.part_calls.specs.Parts.{seen_by}
+use Rattle.weak_part_calls.specs.part_calls.Parts.{seen_by}
 use Rattle.linked_queue.proofs.Poppings.{leaves_then}
 use Rattle.double_link_queue.proofs.queue.DoubleQueue.attach.Goals as goal
 

@@ -1,7 +1,7 @@
 use Rattle.std.specs.Prelude.{◌≡◌}
-use Rattle.core_events.specs.Steps.{HasRoom}
-use Rattle.control_word.specs.Resting.{IsAtRest}
-use Rattle.part_calls.specs.Parts.{StaysBeside, seen_by}
+use Rattle.weak_part_calls.specs.core_events.Steps.{HasRoom}
+use Rattle.weak_part_calls.specs.control_word.Resting.{IsAtRest}
+use Rattle.weak_part_calls.specs.part_calls.Parts.{StaysBeside, seen_by}
 use Rattle.linked_queue.specs.Leaving.{Leaves}
 use Rattle.double_link_queue.proofs.queue.DoubleQueue.attach.Given as goal
 

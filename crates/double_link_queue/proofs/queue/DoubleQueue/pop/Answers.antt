@@ -1,8 +1,8 @@
 use Rattle.std.proofs.Common.{inr, ap, subst, ◌∙◌}
 use Rattle.std.specs.Prelude.{None}
-use Rattle.core_events.specs.declared.view.CoreView.{CoreView}
-use Rattle.atomic_shared.specs.Places.{named}
-use Rattle.part_calls.specs.Parts.{as_part, seen_by}
+use Rattle.weak_part_calls.specs.core_events.declared.view.CoreView.{CoreView}
+use Rattle.weak_part_calls.specs.atomic_shared.Places.{named}
+use Rattle.weak_part_calls.specs.part_calls.Parts.{as_part, seen_by}
 use Rattle.linked_queue.specs.declared.queue.PopError.{PopError}
 use Rattle.linked_queue.specs.Losses.{IsWhyUnpopped, LosesAtHead}
 use Rattle.linked_queue.proofs.Accepting.{stays_then}

@@ -1,17 +1,17 @@
 use Rattle.std.proofs.Common.{inl, [], ◌∷◌, ◌++◌, refl, ap, sym, ◌∙◌, arith}
 use Rattle.std.specs.Prelude.{None}
-use Rattle.core_events.specs.declared.view.CoreView.{CoreView}
-use Rattle.queue_law.specs.declared.view.Item.{Item}
-use Rattle.queue_law.specs.declared.view.View.{View}
-use Rattle.queue_law.specs.Pushes.{carried_item}
-use Rattle.queue_law.specs.Views.{first_view}
-use Rattle.part_calls.specs.Parts.{seen_by, as_part}
-use Rattle.part_calls.proofs.Beside.{stays_beside}
+use Rattle.weak_part_calls.specs.core_events.declared.view.CoreView.{CoreView}
+use Rattle.linked_queue.specs.queue_law.declared.view.Item.{Item}
+use Rattle.linked_queue.specs.queue_law.declared.view.View.{View}
+use Rattle.linked_queue.specs.queue_law.Pushes.{carried_item}
+use Rattle.linked_queue.specs.queue_law.Views.{first_view}
+use Rattle.weak_part_calls.specs.part_calls.Parts.{seen_by, as_part}
+use Rattle.weak_part_calls.proofs.Below.part_calls.Beside.{stays_beside}
 use Rattle.linked_queue.specs.Pops.{item_in}
 use Rattle.linked_queue.specs.Pushes.{pushed_too}
 use Rattle.linked_queue.specs.Queues.{deeds_in}
 use Rattle.linked_queue.proofs.Accepting.{may_still}
-use Rattle.core_events.specs.Views.{without}
+use Rattle.weak_part_calls.specs.core_events.Views.{without}
 use Rattle.linked_queue.proofs.Leavings.{drop_leaves, drop_makes}
 use Rattle.double_link_queue.specs.Pushes.{landed_in}
 use Rattle.double_link_queue.proofs.Leavings.{both_same}

@@ -1,8 +1,8 @@
 use Rattle.std.proofs.Common.{◌∙◌}
-use Rattle.queue_law.specs.Views.{first_view}
-use Rattle.part_calls.proofs.Beside.{stays_beside}
+use Rattle.linked_queue.specs.queue_law.Views.{first_view}
+use Rattle.weak_part_calls.proofs.Below.part_calls.Beside.{stays_beside}
 use Rattle.std.specs.Prelude.{None}
-use Rattle.part_calls.specs.Parts.{seen_by}
+use Rattle.weak_part_calls.specs.part_calls.Parts.{seen_by}
 use Rattle.linked_queue.proofs.Poppings.{leaves_then}
 use Rattle.double_link_queue.proofs.queue.DoubleQueue.shut.Goals as goal
 

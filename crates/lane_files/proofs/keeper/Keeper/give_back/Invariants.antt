@@ -1,6 +1,6 @@
 use Rattle.std.proofs.Common.{◌≡◌, ◌≤◌, ◌++◌, List}
 use Rattle.std.specs.Prelude.{vec_len}
-use Rattle.counted_handles.specs.Handles.{Handle}
+use Rattle.control_word.specs.counted_handles.Handles.{Handle}
 use Rattle.lane_files.specs.Ready.{IsReady}
 use Rattle.lane_files.specs.Keeping.{GivesUp, slots_of}
 use Rattle.lane_files.proofs.keeper.Keeper.give_back.Given as goal

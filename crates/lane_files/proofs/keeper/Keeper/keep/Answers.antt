@@ -1,8 +1,8 @@
 use Rattle.std.proofs.Common.{true, ◌++◌, ◌∷◌, [], List, refl, sym, ap, ◌∙◌}
 use Rattle.std.specs.Prelude.{◌==◌, cond}
 use Rattle.std.specs.HashSet.{contains_by}
-use Rattle.plain_state.specs.declared.slot.SlotId.{SlotId}
-use Rattle.counted_handles.specs.Handles.{Handle}
+use Rattle.control_word.specs.plain_state.declared.slot.SlotId.{SlotId}
+use Rattle.control_word.specs.counted_handles.Handles.{Handle}
 use Rattle.lane_files.proofs.SeatsKept.{drop_counts, owns_drop}
 use Rattle.lane_files.specs.Keeping.{has}
 use Rattle.lane_files.proofs.Keeping.{gives_one, keeps_one}

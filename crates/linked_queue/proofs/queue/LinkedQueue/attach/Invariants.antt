@@ -1,6 +1,6 @@
 use Rattle.std.specs.Prelude.{◌≡◌}
-use Rattle.core_events.specs.Steps.{HasRoom}
-use Rattle.control_word.specs.Resting.{IsAtRest}
+use Rattle.slot_store.specs.core_events.Steps.{HasRoom}
+use Rattle.slot_store.specs.control_word.Resting.{IsAtRest}
 use Rattle.part_calls.specs.Parts.{StaysBeside, seen_by}
 use Rattle.linked_queue.specs.Leaving.{Leaves}
 use Rattle.linked_queue.proofs.queue.LinkedQueue.attach.Given as goal

@@ -1,7 +1,7 @@
 use Rattle.std.proofs.Common.{inr, ap, subst, ◌∙◌}
 use Rattle.std.specs.Prelude.{None}
-use Rattle.core_events.specs.declared.view.CoreView.{CoreView}
-use Rattle.atomic_shared.specs.Places.{named}
+use Rattle.slot_store.specs.core_events.declared.view.CoreView.{CoreView}
+use Rattle.part_calls.specs.atomic_shared.Places.{named}
 use Rattle.part_calls.specs.Parts.{as_part, seen_by}
 use Rattle.linked_queue.specs.declared.queue.PopError.{PopError}
 use Rattle.linked_queue.specs.Losses.{IsWhyUnpopped, LosesAtHead}

@@ -1,6 +1,6 @@
 use Rattle.std.specs.Prelude.{◌≡◌, None}
-use Rattle.core_events.specs.Steps.{HasRoom}
-use Rattle.control_word.specs.Resting.{IsAtRest}
+use Rattle.slot_store.specs.core_events.Steps.{HasRoom}
+use Rattle.slot_store.specs.control_word.Resting.{IsAtRest}
 use Rattle.part_calls.specs.Parts.{StaysBeside, as_part, seen_by}
 use Rattle.linked_queue.specs.Losses.{LosesAtHead}
 use Rattle.linked_queue.specs.Pops.{Pops}

@@ -1,10 +1,10 @@
 use Rattle.std.proofs.Common.{inl, refl, ap, sym, ◌∙◌, arith}
 use Rattle.std.specs.Prelude.{None}
-use Rattle.core_events.specs.declared.view.CoreView.{CoreView}
-use Rattle.queue_law.specs.declared.view.Item.{Item}
-use Rattle.queue_law.specs.declared.view.View.{View}
-use Rattle.queue_law.specs.Pushes.{carried_item}
-use Rattle.queue_law.specs.Views.{first_view}
+use Rattle.slot_store.specs.core_events.declared.view.CoreView.{CoreView}
+use Rattle.queue_protocol.specs.queue_law.declared.view.Item.{Item}
+use Rattle.queue_protocol.specs.queue_law.declared.view.View.{View}
+use Rattle.queue_protocol.specs.queue_law.Pushes.{carried_item}
+use Rattle.queue_protocol.specs.queue_law.Views.{first_view}
 use Rattle.part_calls.specs.Parts.{as_part, seen_by}
 use Rattle.part_calls.proofs.Beside.{stays_beside}
 use Rattle.linked_queue.specs.Pops.{item_in}

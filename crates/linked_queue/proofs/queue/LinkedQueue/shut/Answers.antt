@@ -1,5 +1,5 @@
 use Rattle.std.proofs.Common.{◌∙◌}
-use Rattle.queue_law.specs.Views.{first_view}
+use Rattle.queue_protocol.specs.queue_law.Views.{first_view}
 use Rattle.part_calls.proofs.Beside.{stays_beside}
 use Rattle.std.specs.Prelude.{None}
 use Rattle.part_calls.specs.Parts.{seen_by}

@@ -1,4 +1,4 @@
-use Rattle.queue_law.specs.Views.{first_view}
+use Rattle.queue_protocol.specs.queue_law.Views.{first_view}
 use Rattle.part_calls.proofs.Beside.{stays_beside}
 use Rattle.linked_queue.proofs.queue.LinkedQueue.try_attach.Goals as goal
 

@@ -1,4 +1,4 @@
-use Rattle.queue_law.specs.Views.{first_view}
+use Rattle.queue_protocol.specs.queue_law.Views.{first_view}
 use Rattle.part_calls.proofs.Beside.{stays_beside}
 use Rattle.part_calls.specs.Parts.{seen_by}
 use Rattle.linked_queue.proofs.HandedBack.{handed_back}

@@ -1,6 +1,6 @@
 use Rattle.std.proofs.Common.{◌≡◌, length}
 use Rattle.std.specs.Map.{values_of}
-use Rattle.plain_state.specs.State.{seat_at}
+use Rattle.plain_audit.specs.plain_state.State.{seat_at}
 use Rattle.script_desk.specs.Holding.{HoldsFor}
 use Rattle.script_desk.proofs.Closing.{with_hands}
 use Rattle.script_desk.proofs.desk.Desk.close.Given as goal

@@ -1,4 +1,4 @@
-use Rattle.plain_store.specs.Calls.{strong_place}
+use Rattle.plain_settling.specs.plain_store.Calls.{strong_place}
 use Rattle.script_desk.proofs.Told.{loads_told}
 use Rattle.script_desk.specs.declared.handle.Handle.TheVariants.{Strong}
 use Rattle.script_desk.proofs.Sums.{has_more}

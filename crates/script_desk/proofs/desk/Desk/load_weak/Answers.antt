@@ -1,4 +1,4 @@
-use Rattle.plain_store.specs.Calls.{weak_place}
+use Rattle.plain_settling.specs.plain_store.Calls.{weak_place}
 use Rattle.script_desk.proofs.Told.{weakly_loads_told}
 use Rattle.script_desk.specs.declared.handle.Handle.TheVariants.{Weak}
 use Rattle.script_desk.proofs.Sums.{has_more}

@@ -1,6 +1,6 @@
 use Rattle.std.proofs.Common.{Some}
 use Rattle.plain_settling.proofs.Taking.{snaps_take}
-use Rattle.plain_store.specs.Calls.{strong_place}
+use Rattle.plain_settling.specs.plain_store.Calls.{strong_place}
 use Rattle.script_desk.specs.declared.handle.Handle.TheVariants.{Snapshot}
 use Rattle.script_desk.proofs.Sums.{has_more}
 use Rattle.script_desk.proofs.Gaining.{is_strong_kind, takes_more}

@@ -1,0 +1,2 @@
+-- What callers cite of the proofs below.
+pub use Rattle.core_views.proofs.Below.core_functions as core_functions

@@ -1,0 +1,2 @@
+-- What callers cite of the proofs below.
+pub use Rattle.plain_state.proofs as plain_state

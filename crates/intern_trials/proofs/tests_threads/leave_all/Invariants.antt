@@ -1,8 +1,0 @@
-use Rattle.std.specs.Prelude.{◌≡◌, All}
-use Rattle.intern_trials.specs.Ready.{IsFree}
-use Rattle.intern_trials.proofs.tests_threads.leave_all.Given as goal
-
-abbrev pub invariant-loop-seat : goal.invariant-loop-seat
-invariant-loop-seat l =
-    (IsFree l.domain l.root × (l.root.view.core.seat ≡ 0))
-    × All (λ d. IsFree l.domain d.seat) l.done.items

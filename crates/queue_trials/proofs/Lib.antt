@@ -1,3 +1,0 @@
-pub mod Enclosed
-pub mod Kept
-pub mod Opened

@@ -1,5 +1,0 @@
-use Rattle.queue_trials.specs.Ready.{IsReady, StandsAs}
-use Rattle.queue_trials.proofs.sending.send_all.Given as goal
-
-abbrev pub invariant-loop-number : goal.invariant-loop-number
-invariant-loop-number g l = IsReady l.domain l.seat × StandsAs l.fn.seat l.seat

@@ -1,5 +1,0 @@
-use Rattle.queue_trials.specs.Ready.{IsReady, StandsAs}
-use Rattle.queue_trials.proofs.sending.send_at_last.Given as goal
-
-abbrev pub invariant-loop-try : goal.invariant-loop-try
-invariant-loop-try g l = IsReady l.domain l.seat × StandsAs l.fn.seat l.seat

@@ -1,9 +1,0 @@
-use Rattle.std.proofs.lemmas.List.Elements.{All-pop}
-use Rattle.queue_trials.specs.Ready.{IsNew}
-use Rattle.queue_trials.proofs.tests_opening.take_last.Goals as goal
-
-pub returns : goal.returns
-returns c =
-    let both = All-pop (IsNew c.args.domain.now) c.args.seats.now.items c.pop.new.self.items
-    c.pop.result c.pop.ensures.items c.requires in
-    record { seats = both.0; last = both.1 }

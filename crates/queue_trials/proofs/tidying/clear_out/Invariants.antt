@@ -1,5 +1,0 @@
-use Rattle.queue_trials.specs.Ready.{IsReady, StandsAs}
-use Rattle.queue_trials.proofs.tidying.clear_out.Given as goal
-
-abbrev pub invariant-loop-turn : goal.invariant-loop-turn
-invariant-loop-turn g l = IsReady l.domain l.seat × StandsAs l.fn.seat l.seat

@@ -1,0 +1,6 @@
+pub mod Opened
+pub mod Kept
+pub mod Enclosed
+pub mod Seen
+pub mod Returned
+pub mod Joined
