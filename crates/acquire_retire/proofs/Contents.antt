@@ -15,9 +15,9 @@ use Rattle.core_promises.specs.core_events.Good.{SeatLaw}
 use Rattle.core_promises.specs.core_events.Runs.{AreTerms, IsShape, view_at}
 use Rattle.core_promises.specs.core_events.Steps.{May, place}
 use Rattle.core_promises.specs.core_events.Words.{place_at}
-use Rattle.core_promises.proofs.Below.core_law.Always.{history_sound}
-use Rattle.core_promises.proofs.Below.core_law.InRange.{content_in, open_in_range, put_in_range, readable_in_range}
-use Rattle.core_promises.proofs.Below.core_law.Writes.{IsPlace}
+use Rattle.core_promises.proofs.Below.core_law_Always.{history_sound}
+use Rattle.core_promises.proofs.Below.core_law_InRange.{content_in, open_in_range, put_in_range, readable_in_range}
+use Rattle.core_promises.proofs.Below.core_law_Writes.{IsPlace}
 use Rattle.domain_rule.specs.declared.view.SeatView.{SeatView}
 use Rattle.acquire_retire.specs.Calls.{Stepped}
 use Rattle.acquire_retire.specs.Domains.{DomainState, IsDomain, StoredDomain}

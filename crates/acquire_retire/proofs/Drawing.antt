@@ -8,8 +8,8 @@ use Rattle.domain_rule.specs.plain_protocol.Owns.{OwnPart}
 use Rattle.core_promises.specs.core_events.declared.act.Act.TheVariants as act
 use Rattle.core_promises.specs.core_events.declared.view.CoreView.{CoreView}
 use Rattle.core_promises.specs.core_events.Views.{granted}
-use Rattle.core_promises.proofs.Below.core_law.Always.{history_sound}
-use Rattle.core_promises.proofs.Below.core_law.Grants.{history_grants}
+use Rattle.core_promises.proofs.Below.core_law_Always.{history_sound}
+use Rattle.core_promises.proofs.Below.core_law_Grants.{history_grants}
 use Rattle.domain_rule.specs.declared.view.SeatView.{SeatView}
 use Rattle.acquire_retire.specs.Calls.{Stepped}
 use Rattle.acquire_retire.specs.Domains.{DomainState, IsDomain, StoredDomain}

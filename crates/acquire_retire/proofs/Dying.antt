@@ -21,9 +21,9 @@ use Rattle.core_promises.specs.core_events.Runs.{AreTerms, Core, IsShape, after,
 use Rattle.core_promises.specs.core_events.Steps.{ended, moved}
 use Rattle.dying_slots.specs.core_functions.Phases.{phase_after}
 use Rattle.core_promises.specs.core_law.Sound.{Sound}
-use Rattle.core_promises.proofs.Below.core_law.Always.{history_sound, step_keeps}
-use Rattle.core_promises.proofs.Below.core_law.Kit.{below_but, below_none, below_same, one_other, one_same, times_cons, times_none, times_push, total_at}
-use Rattle.core_promises.proofs.Below.core_law.Parts.{sound_good}
+use Rattle.core_promises.proofs.Below.core_law_Always.{history_sound, step_keeps}
+use Rattle.core_promises.proofs.Below.core_law_Kit.{below_but, below_none, below_same, one_other, one_same, times_cons, times_none, times_push, total_at}
+use Rattle.core_promises.proofs.Below.core_law_Parts.{sound_good}
 use Rattle.dying_slots.specs.Dying.{waiting_of}
 use Rattle.dying_slots.proofs.Waiting.{all_wait, destroyed_waiting, ends_waiting, few_waiting}
 use Rattle.domain_rule.specs.declared.view.SeatView.{SeatView}

@@ -13,9 +13,9 @@ use Rattle.core_promises.specs.core_events.declared.shape.Shape.{Shape}
 use Rattle.core_promises.specs.core_events.declared.view.CoreView.{CoreView}
 use Rattle.core_promises.specs.core_events.Runs.{AreTerms, Core, History, IsShape, view_at}
 use Rattle.core_promises.specs.core_events.Views.{Terms, allowed_makes, granted}
-use Rattle.core_promises.proofs.Below.core_law.Parts.{sound_good}
-use Rattle.core_promises.proofs.Below.core_law.Always.{history_sound}
-use Rattle.core_promises.proofs.Below.core_law.Grants.{history_grants}
+use Rattle.core_promises.proofs.Below.core_law_Parts.{sound_good}
+use Rattle.core_promises.proofs.Below.core_law_Always.{history_sound}
+use Rattle.core_promises.proofs.Below.core_law_Grants.{history_grants}
 use Rattle.core_promises.proofs.Granted.{seat_granted}
 use Rattle.domain_rule.specs.declared.view.SeatView.{SeatView}
 use Rattle.acquire_retire.specs.Calls.{Stepped}

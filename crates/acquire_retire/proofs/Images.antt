@@ -24,11 +24,11 @@ use Rattle.core_promises.specs.core_events.Shows.{show_slot, shows}
 use Rattle.core_promises.specs.core_events.Words.{cell_at, each_from, field_at, payload_at, slot_at, slot_in, weak_cell_at, weak_field_at}
 use Rattle.plain_state.specs.counter_word.Words.{ZERO, has_zero}
 use Rattle.core_promises.specs.core_law.Sound.{Sound}
-use Rattle.core_promises.proofs.Below.core_law.Always.{history_sound}
-use Rattle.core_promises.proofs.Below.core_law.Parts.{sound_good}
-use Rattle.core_promises.proofs.Below.core_law.Bridge.{shown_slot, shown_strong, shown_weak, total_zero}
-use Rattle.core_promises.proofs.Below.core_law.Each.{get_each, length_each}
-use Rattle.core_promises.proofs.Below.core_law.Lists.{each_push, each_same}
+use Rattle.core_promises.proofs.Below.core_law_Always.{history_sound}
+use Rattle.core_promises.proofs.Below.core_law_Parts.{sound_good}
+use Rattle.core_promises.proofs.Below.core_law_Bridge.{shown_slot, shown_strong, shown_weak, total_zero}
+use Rattle.core_promises.proofs.Below.core_law_Each.{get_each, length_each}
+use Rattle.core_promises.proofs.Below.core_law_Lists.{each_push, each_same}
 use Rattle.domain_rule.specs.declared.view.SeatView.{SeatView}
 use Rattle.domain_rule.specs.declared.view.Whole.{Whole}
 use Rattle.domain_rule.specs.Reading.{HasRead}

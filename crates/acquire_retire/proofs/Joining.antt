@@ -9,7 +9,7 @@ use Rattle.core_promises.specs.core_events.Shows.{show_seat}
 use Rattle.core_promises.specs.core_events.Steps.{CanLeave}
 use Rattle.domain_rule.specs.declared.view.Known.{Known}
 use Rattle.core_promises.specs.core_law.Sound.{Sound}
-use Rattle.core_promises.proofs.Below.core_law.Always.{history_sound}
+use Rattle.core_promises.proofs.Below.core_law_Always.{history_sound}
 use Rattle.domain_rule.specs.declared.view.SeatView.{SeatView}
 use Rattle.domain_rule.specs.Opening.{joined_view, merged_object, merged_objects}
 use Rattle.domain_rule.specs.Reading.{FoundIn, HasRead}

@@ -16,8 +16,8 @@ use Rattle.core_promises.specs.core_events.Runs.{view_at}
 use Rattle.core_promises.specs.core_events.Views.{no_view, room_of}
 use Rattle.core_promises.specs.core_events.Words.{word_count}
 use Rattle.core_promises.specs.core_law.Sound.{Sound}
-use Rattle.core_promises.proofs.Below.core_law.Always.{history_sound}
-use Rattle.core_promises.proofs.Below.core_law.Kit.{total_at}
+use Rattle.core_promises.proofs.Below.core_law_Always.{history_sound}
+use Rattle.core_promises.proofs.Below.core_law_Kit.{total_at}
 use Rattle.domain_rule.specs.declared.view.SeatView.{SeatView}
 use Rattle.domain_rule.specs.Reading.{FoundIn, HasRead}
 use Rattle.domain_rule.specs.Rule.{Kept}

@@ -13,8 +13,8 @@ use Rattle.core_promises.specs.core_events.declared.shape.Quota.{Quota}
 use Rattle.core_promises.specs.core_events.Runs.{AreTerms, IsShape}
 use Rattle.core_promises.specs.core_events.Words.{each_from}
 use Rattle.core_promises.specs.core_events.Words.{first_words, slot_at, word_count}
-use Rattle.core_promises.proofs.Below.core_law.Starts.{start_sound}
-use Rattle.core_promises.proofs.Below.core_law.Lists.{each_push}
+use Rattle.core_promises.proofs.Below.core_law_Starts.{start_sound}
+use Rattle.core_promises.proofs.Below.core_law_Lists.{each_push}
 use Rattle.domain_rule.specs.declared.view.SeatView.{SeatView}
 use Rattle.domain_rule.specs.declared.view.Whole.{Whole}
 use Rattle.domain_rule.specs.Opening.{first_of, opened_more, opened_view}

@@ -14,7 +14,7 @@ use Rattle.plain_state.specs.Ejection.{ejected, kept, ripened}
 use Rattle.core_promises.specs.core_events.Steps.{IsIdle, all_seen, answer, is_last, moved}
 use Rattle.core_promises.specs.core_events.Words.{announcements}
 use Rattle.plain_state.proofs.Ejections.{split_length}
-use Rattle.core_promises.proofs.Below.announce_slots.Staying.{few_kept}
+use Rattle.core_promises.proofs.Below.announce_slots_Staying.{few_kept}
 use Rattle.acquire_retire.specs.Calls.{IsSameView, Steps, same_view}
 use Rattle.acquire_retire.specs.Collecting.{Goes, Reads, Splits, move, read_by, scanned_by}
 use Rattle.acquire_retire.specs.Domains.{DomainState}

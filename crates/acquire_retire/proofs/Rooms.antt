@@ -11,7 +11,7 @@ use Rattle.core_promises.specs.core_events.Good.{staying_room}
 use Rattle.core_promises.specs.core_events.Runs.{AreTerms, Core, History, IsShape, view_at}
 use Rattle.core_promises.specs.core_events.Views.{Terms, no_view, room_of}
 use Rattle.core_promises.specs.core_law.Sound.{Sound}
-use Rattle.core_promises.proofs.Below.core_law.Always.{history_sound}
+use Rattle.core_promises.proofs.Below.core_law_Always.{history_sound}
 use Rattle.acquire_retire.specs.Seats.{HasBatch}
 
 staying_least : (v : CoreView) (r : ℕ) → v.room ≡ r → staying_room v ≤ r

@@ -19,7 +19,7 @@ use Rattle.dying_slots.specs.Dying.{is_free, waiting_of}
 use Rattle.dying_slots.proofs.Waiting.{ripened_waiting, waiting_after}
 use Rattle.plain_state.specs.Ejection.{Announcements}
 use Rattle.dying_slots.specs.eject_scan.Seen.{announced, noted, total, with_word}
-use Rattle.dying_slots.proofs.Below.eject_scan.Announcements.{announced_alike, fewer, noted_more}
+use Rattle.dying_slots.proofs.Below.eject_scan_Announcements.{announced_alike, fewer, noted_more}
 use Rattle.plain_state.specs.Ejection as batch
 use Rattle.domain_rule.specs.declared.view.SeatView.{SeatView}
 use Rattle.acquire_retire.specs.Calls.{Stepped}

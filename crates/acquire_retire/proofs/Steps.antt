@@ -18,8 +18,8 @@ use Rattle.core_promises.specs.core_events.Good.{SeatLaw}
 use Rattle.core_promises.specs.core_events.Runs.{Core, History, IsShape, after}
 use Rattle.core_promises.specs.core_events.Steps.{May, next, place}
 use Rattle.core_promises.specs.core_events.Words.{word_count}
-use Rattle.core_promises.proofs.Below.core_law.InRange.{place_in}
-use Rattle.core_promises.proofs.Below.core_law.Trails.{changed_trail}
+use Rattle.core_promises.proofs.Below.core_law_InRange.{place_in}
+use Rattle.core_promises.proofs.Below.core_law_Trails.{changed_trail}
 use Rattle.domain_rule.specs.declared.view.SeatView.{SeatView}
 use Rattle.domain_rule.specs.declared.view.Whole.{Whole}
 use Rattle.domain_rule.specs.Rule.{Kept}

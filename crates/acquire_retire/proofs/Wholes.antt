@@ -16,7 +16,7 @@ use Rattle.core_promises.specs.core_events.declared.view.CoreView.{CoreView}
 use Rattle.core_promises.specs.core_events.Runs.{Core}
 use Rattle.core_promises.specs.core_events.Shows.{shows}
 use Rattle.core_promises.specs.core_law.Sound.{Sound}
-use Rattle.core_promises.proofs.Below.core_law.Lawful.{shows_lawful}
+use Rattle.core_promises.proofs.Below.core_law_Lawful.{shows_lawful}
 use Rattle.domain_rule.specs.declared.view.SeatView.{SeatView}
 use Rattle.domain_rule.specs.declared.view.Whole.{Whole}
 use Rattle.domain_rule.specs.Rule.{Kept, clients}

@@ -15,15 +15,15 @@ use Rattle.protected_loads.specs.core_events.declared.view.CoreView.{CoreView}
 use Rattle.protected_loads.specs.core_events.Shows.{show_seat}
 use Rattle.protected_loads.specs.core_events.Steps.{IsIdle}
 use Rattle.protected_loads.specs.core_events.Views.{Holds}
-use Rattle.protected_loads.proofs.Below.core_law.Kit.{times_push}
+use Rattle.protected_loads.proofs.Below.core_law_Kit.{times_push}
 use Rattle.protected_loads.specs.acquire_retire.Calls.{IsSameView, Steps, same_view}
 use Rattle.protected_loads.specs.acquire_retire.Collecting.{move}
 use Rattle.protected_loads.specs.acquire_retire.Domains.{DomainState}
 use Rattle.protected_loads.specs.acquire_retire.Seats.{SeatState}
 use Rattle.protected_loads.specs.control_word.Calls.{with_add, with_strong}
 use Rattle.protected_loads.specs.control_word.Moves.{Becomes, KnowsStill}
-use Rattle.protected_loads.proofs.Below.control_word.Becoming.{Comes, knows_after, one_step}
-use Rattle.protected_loads.proofs.Below.control_word.Finding.{flagged, strong_word}
+use Rattle.protected_loads.proofs.Below.control_word_Becoming.{Comes, knows_after, one_step}
+use Rattle.protected_loads.proofs.Below.control_word_Finding.{flagged, strong_word}
 use Rattle.atomic_weak.specs.Questions.{CanAsk, FindsAlive, FindsNone, closed_by, without_first}
 use Rattle.atomic_weak.proofs.Telling.{prepared_none, up_below}
 use Rattle.atomic_weak.proofs.Noted.{has_released, holds_weak}

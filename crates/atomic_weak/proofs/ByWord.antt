@@ -24,8 +24,8 @@ use Rattle.protected_loads.specs.acquire_retire.Collecting.{move}
 use Rattle.protected_loads.specs.acquire_retire.Domains.{DomainState}
 use Rattle.protected_loads.specs.acquire_retire.Seats.{SeatState}
 use Rattle.protected_loads.specs.control_word.Moves.{Becomes, KnowsStill}
-use Rattle.protected_loads.proofs.Below.control_word.Becoming.{Comes, bare, comes_more, comes_one, knows_after, one_step}
-use Rattle.protected_loads.proofs.Below.control_word.Finding.{strong_word}
+use Rattle.protected_loads.proofs.Below.control_word_Becoming.{Comes, bare, comes_more, comes_one, knows_after, one_step}
+use Rattle.protected_loads.proofs.Below.control_word_Finding.{strong_word}
 use Rattle.protected_loads.proofs.Noting.{beside, second_stays, written, written_back}
 use Rattle.protected_loads.proofs.Telling.{four_notes}
 use Rattle.atomic_weak.specs.Questions.{CanAsk, FindsAlive, FindsNone, Prepares, closed_by, prepared_by, without_first}

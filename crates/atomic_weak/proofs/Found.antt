@@ -17,7 +17,7 @@ use Rattle.protected_loads.specs.acquire_retire.Domains.{DomainState}
 use Rattle.protected_loads.specs.acquire_retire.Seats.{SeatState}
 use Rattle.protected_loads.specs.control_word.Moves.{KnowsStill}
 use Rattle.protected_loads.specs.control_word.Resting.{IsAtRest}
-use Rattle.protected_loads.proofs.Below.control_word.Becoming.{bare, calling, walks_table}
+use Rattle.protected_loads.proofs.Below.control_word_Becoming.{bare, calling, walks_table}
 use Rattle.protected_loads.specs.Loads.{protected_by}
 use Rattle.protected_loads.proofs.Noting.{all_settled, beside, rests_noted, rests_still}
 use Rattle.atomic_weak.specs.Questions.{Answers, Asks, CanUse, FindsAlive, FindsNone, asked_by, prepared_by, with_guarded, with_none}

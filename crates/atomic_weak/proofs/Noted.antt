@@ -7,7 +7,7 @@ use Rattle.std.proofs.lemmas.List.{get_or_past}
 use Rattle.protected_loads.specs.plain_state.declared.slot.Kind.{Kind}
 use Rattle.protected_loads.specs.plain_state.declared.slot.Kind.TheVariants.{Strong, Weak, Disposal}
 use Rattle.protected_loads.specs.plain_state.declared.slot.SlotId.{SlotId}
-use Rattle.protected_loads.proofs.Below.plain_state.Kit.{entry_loses}
+use Rattle.protected_loads.proofs.Below.plain_state_Kit.{entry_loses}
 use Rattle.protected_loads.specs.plain_protocol.Owns.{HasSlot}
 use Rattle.protected_loads.specs.core_events.declared.view.CoreView.{CoreView}
 use Rattle.protected_loads.specs.core_events.declared.view.Note.{Note}
@@ -15,8 +15,8 @@ use Rattle.protected_loads.specs.core_events.declared.view.Note.TheVariants as n
 use Rattle.protected_loads.specs.core_events.Shows.{show_seat}
 use Rattle.protected_loads.specs.core_events.Steps.{with_note}
 use Rattle.protected_loads.specs.core_events.Views.{Holds, note_of, valid_of}
-use Rattle.protected_loads.proofs.Below.core_functions.Snapshots.{snapshot_at}
-use Rattle.protected_loads.proofs.Below.core_law.Losing.{valid_loses}
+use Rattle.protected_loads.proofs.Below.core_functions_Snapshots.{snapshot_at}
+use Rattle.protected_loads.proofs.Below.core_law_Losing.{valid_loses}
 use Rattle.protected_loads.proofs.Noting.{announced_not_valid, announced_same, more_has, same_has, snapshot_gains}
 
 -- a note that stands for something is there

@@ -18,7 +18,7 @@ use Rattle.protected_loads.specs.core_events.declared.view.Note.TheVariants as n
 use Rattle.protected_loads.specs.core_events.Shows.{show_seat}
 use Rattle.protected_loads.specs.core_events.Steps.{with_note}
 use Rattle.protected_loads.specs.core_events.Views.{note_of}
-use Rattle.protected_loads.proofs.Below.core_law.Steady.{noted_in_range}
+use Rattle.protected_loads.proofs.Below.core_law_Steady.{noted_in_range}
 use Rattle.protected_loads.specs.acquire_retire.Calls.{IsSameView, same_view}
 use Rattle.protected_loads.specs.acquire_retire.Collecting.{move}
 use Rattle.protected_loads.specs.acquire_retire.Domains.{DomainState}
@@ -27,7 +27,7 @@ use Rattle.protected_loads.specs.acquire_retire.Seats.{SeatState}
 use Rattle.protected_loads.specs.control_word.Calls.{with_add, with_strong}
 use Rattle.protected_loads.specs.control_word.Moves.{KnowsStill}
 use Rattle.protected_loads.specs.control_word.Resting.{IsAtRest}
-use Rattle.protected_loads.proofs.Below.control_word.Becoming.{bare, walks_table}
+use Rattle.protected_loads.proofs.Below.control_word_Becoming.{bare, walks_table}
 use Rattle.protected_loads.specs.Loads.{Protects, announced_by, with_snapshot}
 use Rattle.protected_loads.proofs.Noting.{beside, second_stays, written, written_back}
 use Rattle.protected_loads.proofs.Referring.{idle_protected}

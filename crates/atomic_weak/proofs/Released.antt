@@ -15,7 +15,7 @@ use Rattle.protected_loads.specs.acquire_retire.Domains.{DomainState}
 use Rattle.protected_loads.specs.acquire_retire.Seats.{SeatState}
 use Rattle.protected_loads.specs.control_word.Moves.{Becomes, KnowsStill}
 use Rattle.protected_loads.specs.control_word.Resting.{IsAtRest}
-use Rattle.protected_loads.proofs.Below.control_word.Becoming.{Comes, calling}
+use Rattle.protected_loads.proofs.Below.control_word_Becoming.{Comes, calling}
 use Rattle.protected_loads.proofs.Noting.{all_settled, beside, rests_noted}
 use Rattle.atomic_weak.proofs.Noted.{has_released, noted_there}
 use Rattle.atomic_weak.proofs.Releasing.{releases}

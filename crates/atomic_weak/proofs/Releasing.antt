@@ -15,7 +15,7 @@ use Rattle.protected_loads.specs.acquire_retire.Calls.{IsSameView, Steps, same_v
 use Rattle.protected_loads.specs.acquire_retire.Collecting.{move}
 use Rattle.protected_loads.specs.acquire_retire.Domains.{DomainState}
 use Rattle.protected_loads.specs.acquire_retire.Seats.{SeatState}
-use Rattle.protected_loads.proofs.Below.control_word.Becoming.{Comes, bare, comes_one}
+use Rattle.protected_loads.proofs.Below.control_word_Becoming.{Comes, bare, comes_one}
 use Rattle.protected_loads.proofs.Noting.{release_keeps}
 
 module _ {P V : Type 0} {fits : List ℕ → Type 0} (d : DomainState P) (j : ℕ) (u v kept : CoreView)

@@ -11,7 +11,7 @@ use Rattle.protected_loads.specs.core_events.declared.view.CoreView.{CoreView}
 use Rattle.protected_loads.specs.core_events.declared.view.Note.TheVariants as note
 use Rattle.protected_loads.specs.core_events.Steps.{with_note}
 use Rattle.protected_loads.specs.core_events.Views.{note_of}
-use Rattle.protected_loads.proofs.Below.core_law.Kit.{times_push}
+use Rattle.protected_loads.proofs.Below.core_law_Kit.{times_push}
 use Rattle.protected_loads.specs.acquire_retire.Domains.{DomainState}
 use Rattle.protected_loads.specs.acquire_retire.Seats.{SeatState}
 use Rattle.protected_loads.specs.control_word.Calls.{with_strong}

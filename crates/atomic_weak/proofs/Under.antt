@@ -15,7 +15,7 @@ use Rattle.protected_loads.specs.core_events.Views.{Holds, note_of}
 use Rattle.protected_loads.specs.acquire_retire.Domains.{DomainState}
 use Rattle.protected_loads.specs.acquire_retire.Notes.{is_free, least_free}
 use Rattle.protected_loads.specs.acquire_retire.Seats.{SeatState}
-use Rattle.protected_loads.proofs.Below.control_word.Owning.{some_more}
+use Rattle.protected_loads.proofs.Below.control_word_Owning.{some_more}
 use Rattle.protected_loads.proofs.Noting.{written}
 use Rattle.protected_loads.proofs.Telling.{four_notes}
 use Rattle.atomic_weak.specs.Taking.{Finds, IsUnderWhereHeld, Takes}

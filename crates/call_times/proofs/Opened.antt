@@ -2,11 +2,11 @@
 use Rattle.std.proofs.Common.{ℕ, ◌+◌, ◌<◌, ◌≤◌, refl, subst, sym, arith}
 use Rattle.std.specs.Prelude.{All}
 use Rattle.turn_loops.specs.core_events.Runs.{IsShape}
-use Rattle.turn_loops.proofs.Below.core_law.Each.{get_each, length_each}
+use Rattle.turn_loops.proofs.Below.core_law_Each.{get_each, length_each}
 use Rattle.turn_loops.specs.acquire_retire.Domains.{DomainState}
 use Rattle.turn_loops.specs.acquire_retire.Openings.{begun_seat, opened_seats}
 use Rattle.turn_loops.specs.acquire_retire.Seats.{SeatState}
-use Rattle.turn_loops.proofs.Below.control_word.Beginning.{all_at_rest}
+use Rattle.turn_loops.proofs.Below.control_word_Beginning.{all_at_rest}
 use Rattle.weak_intern.specs.directory_law.declared.view.View.{View}
 use Rattle.weak_intern.specs.directory_protocol.declared.law.DirectoryLaw.{DirectoryLaw}
 use Rattle.weak_intern.specs.text_reading.Reading.{HasTwoFree}

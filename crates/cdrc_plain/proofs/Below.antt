@@ -1,2 +1,2 @@
 -- What callers cite of the proofs below.
-pub use Rattle.plain_protocol.proofs as plain_protocol
+pub use Rattle.plain_protocol.proofs.Calm as plain_protocol_Calm

@@ -7,7 +7,7 @@ use Rattle.plain_protocol.specs.plain_state.declared.slot.SlotId.{SlotId}
 use Rattle.plain_protocol.specs.plain_state.Lists.{is_slot}
 use Rattle.plain_protocol.specs.plain_state.State.{Plain}
 use Rattle.plain_protocol.specs.plain_state.Steps.{Does}
-use Rattle.plain_protocol.proofs.Below.plain_state.Kit.{slot_is, times_lost}
+use Rattle.plain_protocol.proofs.Below.plain_state_Kit.{slot_is, times_lost}
 use Rattle.plain_store.specs.declared.store.Store.{Store}
 use Rattle.plain_store.specs.Stores.{plain_of, Kept}
 use Rattle.plain_store.proofs.Calming.{StaysCalm, StaysCalmBut, drop_calm, weak_drop_calm}

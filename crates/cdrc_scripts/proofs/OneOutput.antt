@@ -12,7 +12,7 @@ use Rattle.script_law.specs.script_lines.declared.command.Command.{Command}
 use Rattle.script_law.specs.script_lines.declared.command.ScriptLine.{ScriptLine}
 use Rattle.script_law.specs.script_lines.declared.command.ScriptLine.TheVariants.{Heap, Command as OnHeap}
 use Rattle.script_law.specs.script_lines.Spelling.{SpellsCommand}
-use Rattle.script_law.proofs.Below.script_lines.Unique.{one-line}
+use Rattle.script_law.proofs.Below.script_lines_Unique.{one-line}
 use Rattle.script_law.specs.script_desk.Desks.{Desk, scope_of}
 use Rattle.script_law.specs.script_desk.Effects.{Runs}
 use Rattle.script_law.specs.script_desk.Faults.{IsFault, IsFaultless}

@@ -11,7 +11,7 @@ use Rattle.script_law.specs.script_lines.declared.command.Command.TheVariants as
 use Rattle.script_law.specs.script_desk.declared.said.Said.{Said}
 use Rattle.script_law.specs.script_desk.declared.said.Said.TheVariants as said
 use Rattle.script_law.specs.script_desk.declared.said.Shown.{Shown}
-use Rattle.script_law.specs.Said.{SaidAlike, ShownAlike}
+use Rattle.script_law.specs.SaidAlike.{SaidAlike, ShownAlike}
 use Rattle.cdrc_scripts.specs.SaidLines.{audit_lines, numbers_line, said_line, walk_line}
 
 -- the names of a walk are written by their bytes

@@ -21,15 +21,15 @@ use Rattle.core_promises.specs.core_events.Views.{Holds, of_slot, slot_of}
 use Rattle.core_promises.specs.core_events.Words.{bit_alone, bit_in, bits_at, payload_at, strong_at, ticket_at, weak_at}
 use Rattle.core_promises.specs.core_law.Sound.{Sound}
 use Rattle.core_promises.specs.core_law.Slots.{numbers}
-use Rattle.core_promises.proofs.Below.core_law.Bits.{bit_most, bits_bound, bits_off, bits_other, given_other, taken_other}
-use Rattle.core_promises.proofs.Below.core_law.Held.{held_named}
-use Rattle.core_promises.proofs.Below.core_law.InRange.{open_in_range, owed_named, phase_there, put_in_range}
-use Rattle.core_promises.proofs.Below.core_law.Kit.{one_same, slot_cases, times_push, total_at, total_set}
-use Rattle.core_promises.proofs.Below.core_law.Phases.{in_give}
-use Rattle.core_promises.proofs.Below.core_law.Put.{at_seat}
-use Rattle.core_promises.proofs.Below.core_law.Steady.{named_in_range}
-use Rattle.core_promises.proofs.Below.core_law.Writes.{OffBits, place_off_bits}
-use Rattle.core_promises.proofs.Below.core_law.Live.{giver_clear}
+use Rattle.core_promises.proofs.Below.core_law_Bits.{bit_most, bits_bound, bits_off, bits_other, given_other, taken_other}
+use Rattle.core_promises.proofs.Below.core_law_Held.{held_named}
+use Rattle.core_promises.proofs.Below.core_law_InRange.{open_in_range, owed_named, phase_there, put_in_range}
+use Rattle.core_promises.proofs.Below.core_law_Kit.{one_same, slot_cases, times_push, total_at, total_set}
+use Rattle.core_promises.proofs.Below.core_law_Phases.{in_give}
+use Rattle.core_promises.proofs.Below.core_law_Put.{at_seat}
+use Rattle.core_promises.proofs.Below.core_law_Steady.{named_in_range}
+use Rattle.core_promises.proofs.Below.core_law_Writes.{OffBits, place_off_bits}
+use Rattle.core_promises.proofs.Below.core_law_Live.{giver_clear}
 use Rattle.claim_law.specs.Claims.{claimed, claims}
 use Rattle.claim_law.proofs.Going.{claims_go, won}
 

@@ -12,9 +12,9 @@ use Rattle.core_promises.specs.core_events.Shows.{filled}
 use Rattle.core_promises.specs.core_events.Steps.{CanLeave, answer, moved}
 use Rattle.core_promises.specs.core_events.Views.{Terms, alone}
 use Rattle.core_promises.specs.core_law.Sound.{Sound}
-use Rattle.core_promises.proofs.Below.core_law.Kit.{times_append, times_none}
-use Rattle.core_promises.proofs.Below.core_law.Starts.{total_none}
-use Rattle.core_promises.proofs.Below.core_law.Bridge.{total_zero}
+use Rattle.core_promises.proofs.Below.core_law_Kit.{times_append, times_none}
+use Rattle.core_promises.proofs.Below.core_law_Starts.{total_none}
+use Rattle.core_promises.proofs.Below.core_law_Bridge.{total_zero}
 use Rattle.claim_law.specs.Claims.{claimed, claims, makes_used}
 use Rattle.claim_law.proofs.Going.{claims_go, grows, won}
 use Rattle.claim_law.proofs.Totals.{LagsLeft, SumLags, always_lags, sum_lags}

@@ -7,7 +7,7 @@ use Rattle.core_promises.specs.plain_state.Lists.{times}
 use Rattle.core_promises.specs.core_events.declared.view.CoreView.{CoreView}
 use Rattle.core_promises.specs.core_events.Views.{no_view}
 use Rattle.core_promises.specs.core_events.Counts.{one, sum_below, total}
-use Rattle.core_promises.proofs.Below.core_law.Kit.{below_none, one_other, times_cons, times_none}
+use Rattle.core_promises.proofs.Below.core_law_Kit.{below_none, one_other, times_cons, times_none}
 
 pub total_cons : (f : CoreView → ℕ) (v : CoreView) (vs : List CoreView)
     → total f (v ∷ vs) ≡ f v + total f vs

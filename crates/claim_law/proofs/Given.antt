@@ -13,12 +13,12 @@ use Rattle.core_promises.specs.core_events.Runs.{AreTerms, Core, Enabled, Histor
 use Rattle.core_promises.specs.core_events.Steps.{HasMake, moved}
 use Rattle.core_promises.specs.core_events.Views.{Terms, first_view, first_views, granted}
 use Rattle.core_promises.specs.core_law.Sound.{Sound}
-use Rattle.core_promises.proofs.Below.core_law.Starts.{first_at, length_views}
-use Rattle.core_promises.proofs.Below.core_law.Always.{history_sound}
-use Rattle.core_promises.proofs.Below.core_law.Grants.{history_grants}
-use Rattle.core_promises.proofs.Below.core_law.Trails.{changed_trail}
-use Rattle.core_promises.proofs.Below.core_law.Bridge.{total_zero}
-use Rattle.core_promises.proofs.Below.core_law.Lists.{total_plus}
+use Rattle.core_promises.proofs.Below.core_law_Starts.{first_at, length_views}
+use Rattle.core_promises.proofs.Below.core_law_Always.{history_sound}
+use Rattle.core_promises.proofs.Below.core_law_Grants.{history_grants}
+use Rattle.core_promises.proofs.Below.core_law_Trails.{changed_trail}
+use Rattle.core_promises.proofs.Below.core_law_Bridge.{total_zero}
+use Rattle.core_promises.proofs.Below.core_law_Lists.{total_plus}
 use Rattle.claim_law.specs.Claims.{makes_given, makes_used}
 use Rattle.claim_law.proofs.Counting.{EachMost, total_cons, total_gap, total_most, total_nil}
 use Rattle.claim_law.proofs.Going.{grows}

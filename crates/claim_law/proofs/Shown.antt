@@ -17,11 +17,11 @@ use Rattle.core_promises.specs.core_events.Steps.{answer, moved}
 use Rattle.core_promises.specs.core_events.Views.{Terms, no_view}
 use Rattle.core_promises.specs.core_events.Words.{bit_in, bits_at}
 use Rattle.core_promises.specs.core_law.Sound.{Sound}
-use Rattle.core_promises.proofs.Below.core_law.FirstWords.{bit_first}
-use Rattle.core_promises.proofs.Below.core_law.Starts.{first_trail}
-use Rattle.core_promises.proofs.Below.core_law.Joined as joined
-use Rattle.core_promises.proofs.Below.core_law.Always.{history_sound, is_leave}
-use Rattle.core_promises.proofs.Below.core_law.Trails.{changed_trail, views_plain}
+use Rattle.core_promises.proofs.Below.core_law_FirstWords.{bit_first}
+use Rattle.core_promises.proofs.Below.core_law_Starts.{first_trail}
+use Rattle.core_promises.proofs.Below.core_law_Joined as joined
+use Rattle.core_promises.proofs.Below.core_law_Always.{history_sound, is_leave}
+use Rattle.core_promises.proofs.Below.core_law_Trails.{changed_trail, views_plain}
 use Rattle.claim_law.specs.Claims.{ShownBy, ShowsTaken, claims}
 use Rattle.claim_law.proofs.Bits.{clears}
 use Rattle.claim_law.proofs.Claiming.{claims_stay}

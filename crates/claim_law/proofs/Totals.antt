@@ -13,12 +13,12 @@ use Rattle.core_promises.specs.core_events.Runs.{AreTerms, Core, Enabled, Histor
 use Rattle.core_promises.specs.core_events.Steps.{CanLeave, moved, noted}
 use Rattle.core_promises.specs.core_events.Views.{Terms, no_view}
 use Rattle.core_promises.specs.core_law.Sound.{Sound}
-use Rattle.core_promises.proofs.Below.core_law.Joined as joined
-use Rattle.core_promises.proofs.Below.core_law.Kit.{total_set}
-use Rattle.core_promises.proofs.Below.core_law.Always.{history_sound, is_leave}
-use Rattle.core_promises.proofs.Below.core_law.Trails.{views_plain}
-use Rattle.core_promises.proofs.Below.core_law.Bridge.{shown_seat}
-use Rattle.core_promises.proofs.Below.core_law.Seats.{enabled_seat}
+use Rattle.core_promises.proofs.Below.core_law_Joined as joined
+use Rattle.core_promises.proofs.Below.core_law_Kit.{total_set}
+use Rattle.core_promises.proofs.Below.core_law_Always.{history_sound, is_leave}
+use Rattle.core_promises.proofs.Below.core_law_Trails.{views_plain}
+use Rattle.core_promises.proofs.Below.core_law_Bridge.{shown_seat}
+use Rattle.core_promises.proofs.Below.core_law_Seats.{enabled_seat}
 
 -- f grows by no more than g does
 abbrev pub Lags : (CoreView → ℕ) → (CoreView → ℕ) → CoreView → CoreView → Type 0

@@ -17,7 +17,7 @@ use Rattle.acquire_retire.specs.core_events.declared.view.Phase.{Phase}
 use Rattle.acquire_retire.specs.core_events.Shows.{show_seat}
 use Rattle.acquire_retire.specs.core_events.ShownSteps.{shown_act}
 use Rattle.acquire_retire.specs.core_events.Steps.{answer, changed, moved}
-use Rattle.acquire_retire.proofs.Below.core_law.Trails.{changed_trail}
+use Rattle.acquire_retire.proofs.Below.core_law_Trails.{changed_trail}
 use Rattle.acquire_retire.specs.domain_rule.Told.{changed_object, cleared_after}
 use Rattle.acquire_retire.specs.domain_rule.Views.{object_in}
 use Rattle.acquire_retire.specs.Calls.{IsSameView, Steps, same_view}

@@ -7,7 +7,7 @@ use Rattle.acquire_retire.specs.core_events.Runs.{IsShape}
 use Rattle.acquire_retire.specs.core_events.Steps.{HasRoom}
 use Rattle.acquire_retire.specs.core_events.Views.{first_view, note_of}
 use Rattle.acquire_retire.specs.domain_rule.Views.{quota_at}
-use Rattle.acquire_retire.proofs.Below.core_law.Each.{get_each, length_each}
+use Rattle.acquire_retire.proofs.Below.core_law_Each.{get_each, length_each}
 use Rattle.acquire_retire.specs.Domains.{DomainState}
 use Rattle.acquire_retire.specs.Openings.{begun_seat, opened_seats}
 use Rattle.acquire_retire.specs.Seats.{SeatState}

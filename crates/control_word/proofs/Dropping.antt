@@ -15,7 +15,7 @@ use Rattle.acquire_retire.specs.core_events.Shows.{show_seat}
 use Rattle.acquire_retire.specs.core_events.Steps.{HasRoom, answer, changed}
 use Rattle.acquire_retire.specs.core_events.Views.{slot_of}
 use Rattle.counted_handles.specs.counter_word.Words.{HELP, has_help}
-use Rattle.acquire_retire.proofs.Below.core_law.Kit.{times_without}
+use Rattle.acquire_retire.proofs.Below.core_law_Kit.{times_without}
 use Rattle.acquire_retire.specs.declared.payment.Payment.{Payment}
 use Rattle.acquire_retire.specs.declared.payment.Payment.TheVariants as payment
 use Rattle.acquire_retire.specs.Calls.{IsSameView, Steps, same_view}

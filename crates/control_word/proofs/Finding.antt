@@ -17,11 +17,11 @@ use Rattle.acquire_retire.specs.core_events.Shows.{shows}
 use Rattle.acquire_retire.specs.core_events.Views.{Holds, HoldsStrongly, Terms}
 use Rattle.counted_handles.specs.counter_word.Words.{ZERO, value}
 use Rattle.acquire_retire.specs.core_law.Sound.{Sound}
-use Rattle.acquire_retire.proofs.Below.core_law.Held.{held_named, held_taken, strongly_refs}
-use Rattle.acquire_retire.proofs.Below.core_law.Steady.{named_in_range}
-use Rattle.acquire_retire.proofs.Below.core_law.Always.{history_sound}
-use Rattle.acquire_retire.proofs.Below.core_law.Bridge.{shown_strong}
-use Rattle.acquire_retire.proofs.Below.core_law.Told.{counts_shown}
+use Rattle.acquire_retire.proofs.Below.core_law_Held.{held_named, held_taken, strongly_refs}
+use Rattle.acquire_retire.proofs.Below.core_law_Steady.{named_in_range}
+use Rattle.acquire_retire.proofs.Below.core_law_Always.{history_sound}
+use Rattle.acquire_retire.proofs.Below.core_law_Bridge.{shown_strong}
+use Rattle.acquire_retire.proofs.Below.core_law_Told.{counts_shown}
 use Rattle.acquire_retire.specs.domain_rule.declared.view.SeatView.{SeatView}
 use Rattle.acquire_retire.specs.domain_rule.Told.{Told}
 

@@ -14,7 +14,7 @@ use Rattle.acquire_retire.specs.core_events.declared.view.Move.{Move}
 use Rattle.acquire_retire.specs.core_events.declared.view.Note.TheVariants as note
 use Rattle.acquire_retire.specs.core_events.Steps.{moved}
 use Rattle.acquire_retire.specs.core_events.Views.{first_view, no_notes, note_of}
-use Rattle.acquire_retire.proofs.Below.core_law.Kit.{one_same, times_cons, times_none, times_push, times_without}
+use Rattle.acquire_retire.proofs.Below.core_law_Kit.{one_same, times_cons, times_none, times_push, times_without}
 use Rattle.acquire_retire.specs.Calls.{IsSameView, Steps, same_view}
 use Rattle.acquire_retire.specs.Collecting.{ends}
 use Rattle.acquire_retire.specs.Domains.{DomainState}

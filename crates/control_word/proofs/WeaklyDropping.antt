@@ -12,7 +12,7 @@ use Rattle.acquire_retire.specs.core_events.declared.view.CoreView.{CoreView}
 use Rattle.acquire_retire.specs.core_events.declared.view.Phase.TheVariants as phase
 use Rattle.acquire_retire.specs.core_events.Shows.{show_seat}
 use Rattle.acquire_retire.specs.core_events.Steps.{answer, changed}
-use Rattle.acquire_retire.proofs.Below.core_law.Kit.{times_without}
+use Rattle.acquire_retire.proofs.Below.core_law_Kit.{times_without}
 use Rattle.acquire_retire.specs.core_events.Views.{slot_of}
 use Rattle.acquire_retire.specs.Calls.{IsSameView, Steps, same_view}
 use Rattle.acquire_retire.specs.Collecting.{move}

@@ -6,7 +6,7 @@ use Rattle.announce_slots.specs.plain_state.declared.slot.SlotId.{SlotId}
 use Rattle.announce_slots.specs.counter_word.declared.outcome.Sub.TheVariants as «sub»
 use Rattle.announce_slots.specs.counter_word.declared.outcome.Fin.TheVariants as «fin»
 use Rattle.announce_slots.specs.counter_word.Words.{has_help, added, subbed, finished, helped, marked}
-use Rattle.announce_slots.proofs.Below.counter_word.Bits.{cleared}
+use Rattle.announce_slots.proofs.Below.counter_word_Bits.{cleared}
 use Rattle.core_events.specs.declared.act.Act.TheVariants as act
 use Rattle.core_events.specs.declared.outcome.Outcome.TheVariants as outcome
 use Rattle.core_events.specs.Steps.{plus_one, minus_one}

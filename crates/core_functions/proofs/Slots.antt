@@ -6,7 +6,7 @@ use Rattle.std.proofs.lemmas.Bool.{cases_eq}
 use Rattle.std.proofs.lemmas.Bool.Decides.{nat_tests}
 use Rattle.core_events.specs.plain_state.declared.slot.SlotId.{SlotId}
 use Rattle.core_events.specs.plain_state.Lists.{times, is_slot}
-use Rattle.core_events.proofs.Below.plain_state.Kit.{held_same, held_other, times_none, times_cons}
+use Rattle.core_events.proofs.Below.plain_state_Kit.{held_same, held_other, times_none, times_cons}
 use Rattle.core_events.specs.Views.{without}
 
 any_slot : (s : SlotId) (xs : List SlotId)

@@ -5,7 +5,7 @@ use Rattle.std.proofs.lemmas.Bool.{cases_lt}
 use Rattle.core_events.specs.plain_state.declared.slot.Kind.{Kind}
 use Rattle.core_events.specs.plain_state.declared.slot.SlotId.{SlotId}
 use Rattle.core_events.specs.plain_state.Lists.{entry_times}
-use Rattle.core_events.proofs.Below.plain_state.Kit.{entry_none, entry_cons, entry_self, entry_is, none_by}
+use Rattle.core_events.proofs.Below.plain_state_Kit.{entry_none, entry_cons, entry_self, entry_is, none_by}
 use Rattle.core_events.specs.declared.view.Note.{Note}
 use Rattle.core_events.specs.declared.view.Note.TheVariants as note
 use Rattle.core_events.specs.Views.{valid_of}

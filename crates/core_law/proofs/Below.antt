@@ -1,3 +1,4 @@
 -- What callers cite of the proofs below.
-pub use Rattle.core_events.proofs.Below.announce_slots as announce_slots
-pub use Rattle.core_events.proofs.Below.plain_state as plain_state
+pub use Rattle.core_events.proofs.Below.announce_slots_Counting as announce_slots_Counting
+pub use Rattle.core_events.proofs.Below.announce_slots_Staying as announce_slots_Staying
+pub use Rattle.core_events.proofs.Below.plain_state_Kit as plain_state_Kit

@@ -25,8 +25,8 @@ use Rattle.core_law.proofs.Kit.{entry_none, total_set, total_at, times_none}
 use Rattle.core_law.proofs.Flags.{live_taken}
 use Rattle.core_law.proofs.Held.{guard_le, total_le}
 use Rattle.core_law.proofs.Ripening.{ripened_times, ripens_not}
-use Rattle.core_events.proofs.Below.announce_slots.Counting.{seen_at}
-use Rattle.core_events.proofs.Below.plain_state.Ejections.{kept_times, split_times, split_length}
+use Rattle.core_events.proofs.Below.announce_slots_Counting.{seen_at}
+use Rattle.core_events.proofs.Below.plain_state_Ejections.{kept_times, split_times, split_length}
 use Rattle.core_law.proofs.Put.{put, still_sound, at_seat, adds_fit}
 use Rattle.core_law.proofs.Phases.{Counted, in_idle, in_scan}
 use Rattle.core_law.proofs.Steady.{noted_in_range}

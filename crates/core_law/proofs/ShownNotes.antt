@@ -37,7 +37,7 @@ use Rattle.core_law.proofs.Held.{held_named}
 use Rattle.core_law.proofs.InRange.{readable_in_range}
 use Rattle.core_law.proofs.Parts.{value_is}
 use Rattle.core_law.proofs.Put.{put, at_seat, adds_fit}
-use Rattle.core_events.proofs.Below.plain_state.Ejections.{split_times}
+use Rattle.core_events.proofs.Below.plain_state_Ejections.{split_times}
 use Rattle.core_law.proofs.Steady.{named_in_range}
 use Rattle.core_law.proofs.Bridge.{shown_seat, shown_strong}
 use Rattle.core_law.proofs.Does as does

@@ -25,7 +25,7 @@ use Rattle.core_law.proofs.Flags.{flags}
 use Rattle.core_law.proofs.Held.{held_named}
 use Rattle.core_law.proofs.Kit.{one_same, total_at}
 use Rattle.core_law.proofs.Put.{adds_fit}
-use Rattle.core_law.proofs.Below.plain_state.Kit.{entry_cons, entry_self}
+use Rattle.core_law.proofs.Below.plain_state_Kit.{entry_cons, entry_self}
 use Rattle.core_law.proofs.Parts.{sound_good, value_is}
 use Rattle.core_law.proofs.Steady.{named_in_range}
 use Rattle.core_promises.specs.Finds.{NeverWraps, TellsTruly}

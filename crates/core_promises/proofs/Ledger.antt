@@ -16,7 +16,7 @@ use Rattle.core_law.specs.plain_state.Lists.{is_slot, times}
 use Rattle.core_law.specs.plain_state.Places.{with_content, with_field}
 use Rattle.core_law.specs.plain_state.State.{Plain, PlainSeat, new_slot, seat_at, slot_at, stage_at, with_slot}
 use Rattle.core_law.specs.plain_state.Steps.{Does}
-use Rattle.core_law.proofs.Below.plain_state.Kit.{cases_slot, seats_at, times_lost}
+use Rattle.core_law.proofs.Below.plain_state_Kit.{cases_slot, seats_at, times_lost}
 use Rattle.core_promises.specs.Destroyed.{standing}
 
 -- 1 for a step that destroys the object in s

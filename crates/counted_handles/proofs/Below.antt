@@ -1,2 +1,3 @@
 -- What callers cite of the proofs below.
-pub use Rattle.plain_state.proofs as plain_state
+pub use Rattle.plain_state.proofs.Ejections as plain_state_Ejections
+pub use Rattle.plain_state.proofs.Kit as plain_state_Kit

@@ -13,10 +13,10 @@ use Rattle.protected_loads.specs.core_events.declared.view.Move.{Move}
 use Rattle.protected_loads.specs.core_events.Runs.{after}
 use Rattle.protected_loads.specs.core_events.Shows.{shows}
 use Rattle.protected_loads.specs.core_events.Steps.{answer, moved}
-use Rattle.protected_loads.proofs.Below.core_law.Trails.{changed_trail}
+use Rattle.protected_loads.proofs.Below.core_law_Trails.{changed_trail}
 use Rattle.protected_loads.specs.acquire_retire.Collecting.{WalksBy, move}
 use Rattle.protected_loads.specs.core_events.Views.{Holds, held_times}
-use Rattle.protected_loads.proofs.Below.core_law.Kit.{times_none}
+use Rattle.protected_loads.proofs.Below.core_law_Kit.{times_none}
 use Rattle.protected_loads.specs.control_word.Moves.{KnowsStill}
 use Rattle.protected_loads.proofs.Telling.{holds_has}
 use Rattle.protected_loads.specs.domain_rule.Told.{Happened}

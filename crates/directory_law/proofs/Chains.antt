@@ -10,7 +10,7 @@ use Rattle.plain_protocol.specs.plain_state.declared.slot.Stage.TheVariants.{Fre
 use Rattle.plain_protocol.specs.plain_state.State.{Plain, new_slot, slot_at, stage_at}
 use Rattle.plain_protocol.specs.plain_state.References.{held_in, over_slots, strong_fields, strong_refs}
 use Rattle.plain_protocol.specs.plain_state.Lawful.{Lawful}
-use Rattle.plain_protocol.proofs.Below.plain_state.Kit.{held_self}
+use Rattle.plain_protocol.proofs.Below.plain_state_Kit.{held_self}
 use Rattle.directory_law.specs.Payloads.{Text, IsHead, IsPart, IsOwn, IsText}
 use Rattle.directory_law.specs.Views.{View}
 use Rattle.directory_law.specs.Chains.{Along, Begins, Reads, OwnSlot}

@@ -5,7 +5,7 @@ use Rattle.std.proofs.lemmas.List.{length-set, get_or-set_same, get_or-set_other
 use Rattle.std.proofs.lemmas.List.Sums.{sum_by-set, get_or-le-sum_by}
 use Rattle.std.proofs.lemmas.Bool.{cases_eq}
 use Rattle.plain_protocol.specs.plain_state.declared.slot.SlotId.{SlotId}
-use Rattle.plain_protocol.proofs.Below.plain_state.Kit.{cases_slot}
+use Rattle.plain_protocol.proofs.Below.plain_state_Kit.{cases_slot}
 use Rattle.directory_law.specs.Views.{View, gone, view_at, total}
 
 pub cases_id : (s r : SlotId) → (s ≡ r) ⊎ (s ≢ r)

@@ -15,7 +15,7 @@ use Rattle.plain_protocol.specs.plain_state.References.{held_in}
 use Rattle.plain_protocol.specs.plain_state.Places.{content}
 use Rattle.plain_protocol.specs.plain_state.Lawful.{Lawful}
 use Rattle.plain_protocol.specs.plain_state.Steps.{Does, word_of, joined as defers}
-use Rattle.plain_protocol.proofs.Below.plain_state.Kit.{held_self, times_push}
+use Rattle.plain_protocol.proofs.Below.plain_state_Kit.{held_self, times_push}
 use Rattle.plain_protocol.specs.Laws.{Keeps}
 use Rattle.plain_protocol.specs.Owns.{own_part, HasSlot}
 use Rattle.directory_law.specs.Payloads.{Text, IsPart, IsOwn, IsText}

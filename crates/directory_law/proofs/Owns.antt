@@ -13,7 +13,7 @@ use Rattle.plain_protocol.specs.plain_state.State.{Plain, PlainSeat, new_slot, s
 use Rattle.plain_protocol.specs.plain_state.References.{places, deferrals, held_in, snapshot_times}
 use Rattle.plain_protocol.specs.plain_state.Places.{held_times}
 use Rattle.plain_protocol.specs.plain_state.Lawful.{Lawful}
-use Rattle.plain_protocol.proofs.Below.plain_state.Kit.{seats_at}
+use Rattle.plain_protocol.proofs.Below.plain_state_Kit.{seats_at}
 use Rattle.plain_protocol.specs.Owns.{Object, object_of, own_part, has_slot, HasSlot}
 use Rattle.directory_law.proofs.Kept.{there}
 use Rattle.directory_law.specs.Steps.{life_of, payload_of, life_in, payload_in}

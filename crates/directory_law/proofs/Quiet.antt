@@ -10,7 +10,7 @@ use Rattle.plain_protocol.specs.plain_state.Lists.{cell_times}
 use Rattle.plain_protocol.specs.plain_state.State.{Plain, slot_at}
 use Rattle.plain_protocol.specs.plain_state.References.{held_in}
 use Rattle.plain_protocol.specs.plain_state.Lawful.{Lawful}
-use Rattle.plain_protocol.proofs.Below.plain_state.Kit.{cells_at, held_self}
+use Rattle.plain_protocol.proofs.Below.plain_state_Kit.{cells_at, held_self}
 use Rattle.plain_protocol.specs.Calm.{IsMade, StaysOrNull, IsCalmed}
 use Rattle.plain_protocol.specs.Laws.{KeptByCalm}
 use Rattle.plain_protocol.proofs.Calm.{calm_leaves}

@@ -10,7 +10,7 @@ use Rattle.plain_protocol.specs.plain_state.declared.slot.PlainSlot.{PlainSlot}
 use Rattle.plain_protocol.specs.plain_state.declared.slot.SlotId.{SlotId}
 use Rattle.plain_protocol.specs.plain_state.declared.slot.Stage.TheVariants.{Free, Live}
 use Rattle.plain_protocol.specs.plain_state.State.{Plain, empty, stage_at}
-use Rattle.plain_protocol.proofs.Below.plain_state.Start.{every_slot_new}
+use Rattle.plain_protocol.proofs.Below.plain_state_Start.{every_slot_new}
 use Rattle.plain_protocol.specs.Laws.{Starts}
 use Rattle.directory_law.specs.Views.{View, gone, view_at, times_of, total, fresh, keeps}
 use Rattle.directory_law.specs.Chains.{OwnSlot}

@@ -25,7 +25,7 @@ use Rattle.protected_loads.specs.core_events.ShownSteps.{releases}
 use Rattle.protected_loads.specs.core_events.Steps.{May, with_note}
 use Rattle.protected_loads.specs.core_events.Views.{note_of}
 use Rattle.protected_loads.specs.core_law.Sound.{Sound}
-use Rattle.protected_loads.proofs.Below.core_law.Events.{event_shows}
+use Rattle.protected_loads.proofs.Below.core_law_Events.{event_shows}
 use Rattle.protected_loads.specs.domain_rule.declared.view.SeatView.{SeatView}
 use Rattle.protected_loads.specs.domain_rule.declared.view.Whole.{Whole}
 use Rattle.protected_loads.specs.domain_rule.Rule.{OthersLeft}
@@ -37,8 +37,8 @@ use Rattle.protected_loads.specs.acquire_retire.Seats.{SeatState}
 use Rattle.protected_loads.specs.acquire_retire.Wholes.{core_known, known_core}
 use Rattle.protected_loads.specs.control_word.Moves.{KnowsStill}
 use Rattle.protected_loads.specs.control_word.Resting.{IsAtRest}
-use Rattle.protected_loads.proofs.Below.control_word.Becoming.{Comes, bare, comes_more, comes_one, rest_after}
-use Rattle.protected_loads.proofs.Below.control_word.Finding.{sound_before}
+use Rattle.protected_loads.proofs.Below.control_word_Becoming.{Comes, bare, comes_more, comes_one, rest_after}
+use Rattle.protected_loads.proofs.Below.control_word_Finding.{sound_before}
 use Rattle.protected_loads.proofs.Noting.{announced_not_valid, announced_same, release_keeps, second_stays, written, written_back}
 use Rattle.protected_loads.proofs.Telling.{four_notes}
 use Rattle.slot_store.proofs.Objects.{known_after, known_before, known_still, some_value, sound_later}

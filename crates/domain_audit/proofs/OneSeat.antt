@@ -17,12 +17,12 @@ use Rattle.plain_audit.specs.plain_state.Lists.{entry_times, times}
 use Rattle.plain_audit.specs.plain_state.References.{deferrals, dying_times, over_seats, snapshot_times, strong_refs, weak_refs}
 use Rattle.plain_audit.specs.plain_state.Sound.{Sound, all_adds}
 use Rattle.plain_audit.specs.plain_state.State.{Plain, PlainSeat, new_seat, seat_at, slot_at, stage_at}
-use Rattle.plain_audit.proofs.Below.plain_state.Kit.{entry_none, times_none}
+use Rattle.plain_audit.proofs.Below.plain_state_Kit.{entry_none, times_none}
 use Rattle.plain_audit.specs.plain_store.Heaps.{IsHeap}
 use Rattle.plain_audit.specs.plain_store.Settling.{IsSettled}
 use Rattle.plain_audit.specs.heap_audit.declared.finding.Audit.{Audit}
 use Rattle.plain_audit.specs.heap_audit.Heaps.{slot}
-use Rattle.plain_audit.proofs.Below.heap_audit.Alike.{found_alike, many_alike}
+use Rattle.plain_audit.proofs.Below.heap_audit_Alike.{found_alike, many_alike}
 use Rattle.plain_audit.specs.Audits.{IsAudit}
 use Rattle.plain_audit.specs.Reached.{HasField, IsReached, IsRoot, IsUnreached}
 use Rattle.plain_audit.proofs.ImageLaws.{image_fits, image_in_range, image_lawful}

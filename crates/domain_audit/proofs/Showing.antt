@@ -25,13 +25,13 @@ use Rattle.protected_loads.specs.core_events.Shows.{show_seat, show_slot, shows}
 use Rattle.protected_loads.specs.core_events.Words.{each_from, payload_at}
 use Rattle.protected_loads.specs.core_law.Slots.{Numbers, SlotLaw, asked, bare, blank, counted, free, husk, numbers, over}
 use Rattle.protected_loads.specs.core_law.Sound.{Sound}
-use Rattle.protected_loads.proofs.Below.core_law.Each.{get_each, length_each}
-use Rattle.protected_loads.proofs.Below.core_law.Kit.{entry_append, times_none}
-use Rattle.protected_loads.proofs.Below.core_law.Parts.{stage_in, stage_is}
-use Rattle.protected_loads.proofs.Below.core_law.Put.{adds_fit}
-use Rattle.protected_loads.proofs.Below.core_law.Bridge.{refs_past, shown_dying, shown_past, shown_seat, shown_stage, shown_strong, shown_weak, total_zero}
-use Rattle.protected_loads.proofs.Below.core_law.Lawful.{shows_lawful}
-use Rattle.protected_loads.proofs.Below.core_law.Lists.{seats_sum}
+use Rattle.protected_loads.proofs.Below.core_law_Each.{get_each, length_each}
+use Rattle.protected_loads.proofs.Below.core_law_Kit.{entry_append, times_none}
+use Rattle.protected_loads.proofs.Below.core_law_Parts.{stage_in, stage_is}
+use Rattle.protected_loads.proofs.Below.core_law_Put.{adds_fit}
+use Rattle.protected_loads.proofs.Below.core_law_Bridge.{refs_past, shown_dying, shown_past, shown_seat, shown_stage, shown_strong, shown_weak, total_zero}
+use Rattle.protected_loads.proofs.Below.core_law_Lawful.{shows_lawful}
+use Rattle.protected_loads.proofs.Below.core_law_Lists.{seats_sum}
 use Rattle.domain_audit.specs.Lone.{CanBeAudited, IsLone}
 use Rattle.domain_audit.proofs.OneSeat.{HasNothing, IsLoneState, can_be_audited}
 

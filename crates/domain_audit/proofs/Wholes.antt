@@ -11,7 +11,7 @@ use Rattle.protected_loads.specs.core_events.Steps.{HasRoom, IsIdle}
 use Rattle.protected_loads.specs.acquire_retire.Domains.{DomainState}
 use Rattle.protected_loads.specs.acquire_retire.Seats.{SeatState}
 use Rattle.protected_loads.specs.acquire_retire.Wholes.{IsWholeImage, known_core}
-use Rattle.slot_store.proofs.Below.acquire_retire.Wholes.{then_ok}
+use Rattle.slot_store.proofs.Below.acquire_retire_Wholes.{then_ok}
 use Rattle.protected_loads.specs.control_word.Resting.{IsAtRest}
 use Rattle.plain_audit.specs.heap_audit.declared.finding.Audit.{Audit}
 use Rattle.plain_audit.specs.heap_audit.Heaps.{slot, live_bytes, live_slots}

@@ -15,7 +15,7 @@ use Rattle.script_desk.specs.plain_state.Places.{CanDispose, field_of, with_fiel
 use Rattle.script_desk.specs.plain_state.References.{deferrals, over_seats, snapshot_times, strong_refs, weak_refs}
 use Rattle.script_desk.specs.plain_state.State.{Plain, PlainSeat, seat_at, slot_at, with_seat, with_slot}
 use Rattle.script_desk.specs.plain_state.Steps.{Does, IsReordering, IsSeat, joined}
-use Rattle.script_desk.proofs.Below.plain_state.Kit.{entry_none, seats_set, times_none}
+use Rattle.script_desk.proofs.Below.plain_state_Kit.{entry_none, seats_set, times_none}
 use Rattle.script_desk.specs.plain_settling.Settling.{IsSurplus, Tidies, TidiesBy, TidiesTo}
 use Rattle.script_desk.specs.declared.handle.Handle.{Handle}
 use Rattle.script_desk.specs.declared.handle.Handle.TheVariants.{Strong as StrongHand, Weak as WeakHand, Snapshot}

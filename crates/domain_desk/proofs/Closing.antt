@@ -6,7 +6,7 @@ use Rattle.std.specs.Prelude.{slice_index_or, slice_set}
 use Rattle.script_desk.specs.plain_state.State.{Plain, PlainSeat, new_seat, seat_at}
 use Rattle.script_desk.specs.plain_state.Steps.{Does}
 use Rattle.script_desk.specs.plain_settling.Settling.{TidiesTo}
-use Rattle.script_desk.proofs.Below.plain_settling.Settling.{tidies_on}
+use Rattle.script_desk.proofs.Below.plain_settling_Settling.{tidies_on}
 use Rattle.lone_heap.specs.Lone.{ThenTidies}
 use Rattle.script_desk.specs.declared.handle.Handle.{Handle}
 use Rattle.script_desk.specs.Desks.{Names, without_handles}

@@ -6,7 +6,7 @@ use Rattle.script_desk.specs.plain_state.declared.slot.SlotId.{SlotId}
 use Rattle.script_desk.specs.plain_state.State.{Plain}
 use Rattle.script_desk.specs.plain_state.Steps.{Does}
 use Rattle.script_desk.specs.plain_store.Calls.{ending}
-use Rattle.script_desk.proofs.Below.plain_settling.Settling.{tidies_none}
+use Rattle.script_desk.proofs.Below.plain_settling_Settling.{tidies_none}
 use Rattle.lone_heap.specs.acquire_retire.Seats.{SeatState}
 use Rattle.lone_heap.specs.declared.words.Words.{Words}
 use Rattle.lone_heap.specs.Lone.{ThenTidies, known_plain}

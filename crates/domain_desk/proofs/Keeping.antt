@@ -12,7 +12,7 @@ use Rattle.script_desk.specs.plain_store.Heaps.{Makes, Owns, OwnsWeakly}
 use Rattle.script_desk.specs.plain_store.Settling.{IsSettled, freed}
 use Rattle.script_desk.specs.plain_store.Settling.{Settles as PlainSettles}
 use Rattle.script_desk.specs.plain_settling.Settling.{Tidies, TidiesBy, TidiesTo}
-use Rattle.script_desk.proofs.Below.plain_settling.Settling.{tidies_none, tidies_on}
+use Rattle.script_desk.proofs.Below.plain_settling_Settling.{tidies_none, tidies_on}
 use Rattle.lone_heap.specs.acquire_retire.Seats.{SeatState}
 use Rattle.lone_heap.specs.declared.words.Words.{Words}
 use Rattle.lone_heap.specs.Lone.{IsReady, ThenTidies, known_plain}

@@ -6,7 +6,7 @@ use Rattle.plain_protocol.specs.plain_state.declared.act.PlainAct.{PlainAct}
 use Rattle.plain_protocol.specs.plain_state.declared.act.PlainAct.TheVariants as plain
 use Rattle.plain_protocol.specs.plain_state.declared.slot.SlotId.{SlotId}
 use Rattle.plain_protocol.specs.plain_state.Lists.{Entry}
-use Rattle.plain_protocol.proofs.Below.plain_state.Kit.{slot_is}
+use Rattle.plain_protocol.proofs.Below.plain_state_Kit.{slot_is}
 use Rattle.plain_protocol.specs.Owns.{Object}
 use Rattle.core_law.specs.core_events.declared.act.Act.{Act}
 use Rattle.core_law.specs.core_events.declared.act.Act.TheVariants as act

@@ -7,7 +7,7 @@ use Rattle.plain_protocol.specs.plain_state.declared.slot.SlotId.{SlotId}
 use Rattle.plain_protocol.specs.plain_state.Lists.{Entry, times}
 use Rattle.plain_protocol.specs.plain_state.Places.{place_kind}
 use Rattle.plain_protocol.specs.plain_state.Steps.{word_of}
-use Rattle.plain_protocol.proofs.Below.plain_state.Kit.{times_push}
+use Rattle.plain_protocol.proofs.Below.plain_state_Kit.{times_push}
 use Rattle.core_law.specs.core_events.declared.act.Act.{Act}
 use Rattle.core_law.specs.core_events.declared.act.Act.TheVariants as act
 use Rattle.core_law.specs.core_events.declared.shape.Shape.{Shape}

@@ -14,7 +14,7 @@ use Rattle.plain_protocol.specs.plain_state.Lists.{is_slot}
 use Rattle.plain_protocol.specs.plain_state.Places.{with_content, with_field}
 use Rattle.plain_protocol.specs.plain_state.State.{Plain, new_slot, slot_at, with_slot}
 use Rattle.plain_protocol.specs.plain_state.Steps.{Does, Replaces, Clears}
-use Rattle.plain_protocol.proofs.Below.plain_state.Kit.{cases_slot}
+use Rattle.plain_protocol.proofs.Below.plain_state_Kit.{cases_slot}
 use Rattle.plain_protocol.specs.Owns.{Object, object_of}
 use Rattle.domain_rule.specs.Told.{changed_object}
 

@@ -11,7 +11,7 @@ use Rattle.plain_protocol.specs.plain_state.declared.slot.SlotId.{SlotId}
 use Rattle.plain_protocol.specs.plain_state.declared.slot.PlainSlot.{PlainSlot}
 use Rattle.plain_protocol.specs.plain_state.Fits.{AllFit}
 use Rattle.plain_protocol.specs.plain_state.State.{Plain, slot_at, new_slot, empty}
-use Rattle.plain_protocol.proofs.Below.plain_state.Start.{every_slot_new}
+use Rattle.plain_protocol.proofs.Below.plain_state_Start.{every_slot_new}
 use Rattle.plain_protocol.specs.Laws.{Starts}
 use Rattle.plain_protocol.specs.Owns.{object_of}
 use Rattle.core_law.specs.core_events.declared.shape.Shape.{Shape}

@@ -1,4 +1,5 @@
 -- What callers cite of the proofs below.
-pub use Rattle.weak_part_calls.proofs.Below.claim_law as claim_law
-pub use Rattle.weak_part_calls.proofs.Below.protected_loads as protected_loads
-pub use Rattle.weak_part_calls.proofs.Below.slot_store as slot_store
+pub use Rattle.weak_part_calls.proofs.Below.claim_law_Taken as claim_law_Taken
+pub use Rattle.weak_part_calls.proofs.Below.protected_loads_Telling as protected_loads_Telling
+pub use Rattle.weak_part_calls.proofs.Below.slot_store_Exhausting as slot_store_Exhausting
+pub use Rattle.weak_part_calls.proofs.Below.slot_store_Passing as slot_store_Passing

@@ -11,7 +11,7 @@ use Rattle.weak_part_calls.specs.core_events.declared.outcome.Outcome.TheVariant
 use Rattle.weak_part_calls.specs.core_events.declared.view.CoreView.{CoreView}
 use Rattle.weak_part_calls.specs.core_events.Views.{without}
 use Rattle.weak_part_calls.specs.core_events.Words.{slot_in}
-use Rattle.weak_part_calls.proofs.Below.core_law.Kit.{times_push}
+use Rattle.weak_part_calls.proofs.Below.core_law_Kit.{times_push}
 use Rattle.weak_part_calls.specs.acquire_retire.Calls.{IsReady, Steps}
 use Rattle.weak_part_calls.specs.acquire_retire.Collecting.{move}
 use Rattle.weak_part_calls.specs.acquire_retire.Domains.{DomainState}

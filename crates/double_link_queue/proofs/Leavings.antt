@@ -19,7 +19,7 @@ use Rattle.weak_part_calls.specs.acquire_retire.Seats.{SeatState}
 use Rattle.weak_part_calls.specs.control_word.Calls.{DropsWeak, GainsWeak, with_weak, without_weak}
 use Rattle.weak_part_calls.specs.control_word.Resting.{IsSpent}
 use Rattle.weak_part_calls.specs.control_word.Moves.{KnowsStill}
-use Rattle.weak_part_calls.proofs.Below.protected_loads.Telling.{holds_has}
+use Rattle.weak_part_calls.proofs.Below.protected_loads_Telling.{holds_has}
 use Rattle.weak_part_calls.specs.retiring_stores.Exchanging.{Exchanges}
 use Rattle.linked_queue.proofs.Trails.{exchange_trail, trail_same}
 use Rattle.double_link_queue.specs.Leaving.{LeavesBoth, apart}

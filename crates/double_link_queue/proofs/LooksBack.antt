@@ -8,7 +8,7 @@ use Rattle.weak_part_calls.specs.plain_state.declared.slot.SlotId.{SlotId}
 use Rattle.weak_part_calls.specs.plain_state.Lists.{times}
 use Rattle.weak_part_calls.specs.core_events.declared.view.CoreView.{CoreView}
 use Rattle.weak_part_calls.specs.core_events.Words.{slot_in}
-use Rattle.weak_part_calls.proofs.Below.core_law.Kit.{one_same, times_push}
+use Rattle.weak_part_calls.proofs.Below.core_law_Kit.{one_same, times_push}
 use Rattle.weak_part_calls.specs.counted_handles.Handles.{Handle}
 use Rattle.weak_part_calls.specs.counted_handles.declared.refusal.LoadError.{LoadError}
 use Rattle.weak_part_calls.specs.counted_handles.declared.refusal.LoadError.TheVariants as unloaded
@@ -21,7 +21,7 @@ use Rattle.weak_part_calls.specs.control_word.Moves.{KnowsStill}
 use Rattle.weak_part_calls.specs.control_word.Resting.{IsAtRest, IsSpent}
 use Rattle.weak_part_calls.specs.protected_loads.Loads.{FindsNull, Misses}
 use Rattle.weak_part_calls.specs.protected_loads.References.{IsReadyToLoad, Loads, Refers}
-use Rattle.weak_part_calls.proofs.Below.protected_loads.Learning.{client_found, client_moved, client_null}
+use Rattle.weak_part_calls.proofs.Below.protected_loads_Learning.{client_found, client_moved, client_null}
 use Rattle.linked_queue.specs.queue_law.declared.view.Form.TheVariants.{Double}
 use Rattle.linked_queue.specs.queue_law.declared.view.View.{View}
 use Rattle.linked_queue.specs.queue_law.Lessons.{BeforeReady, TellsNothing, before_next}

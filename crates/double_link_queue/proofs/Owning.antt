@@ -5,7 +5,7 @@ use Rattle.weak_part_calls.specs.plain_state.declared.slot.SlotId.{SlotId}
 use Rattle.weak_part_calls.specs.plain_state.Lists.{times}
 use Rattle.weak_part_calls.specs.core_events.declared.view.CoreView.{CoreView}
 use Rattle.weak_part_calls.specs.core_events.Views.{Holds, held_times, without}
-use Rattle.weak_part_calls.proofs.Below.core_law.Kit.{one_other, one_same, slot_cases, times_none, times_push, times_without}
+use Rattle.weak_part_calls.proofs.Below.core_law_Kit.{one_other, one_same, slot_cases, times_none, times_push, times_without}
 use Rattle.weak_part_calls.specs.acquire_retire.Seats.{SeatState}
 use Rattle.linked_queue.specs.Leaving.{Leaves, with_found}
 use Rattle.linked_queue.proofs.Owning.{found_more}

@@ -10,11 +10,11 @@ use Rattle.linked_queue.specs.queue_law.Law.{WholeLaw}
 use Rattle.linked_queue.specs.queue_law.Lessons.{SetReady, set_next}
 use Rattle.linked_queue.specs.queue_law.Views.{first_view, view_at}
 use Rattle.linked_queue.specs.queue_law.Words.{Live, first_of, held_times, slot_at}
-use Rattle.linked_queue.proofs.Below.queue_law.Deeds as deeds
-use Rattle.linked_queue.proofs.Below.queue_law.Effects.{calm_quiet}
-use Rattle.linked_queue.proofs.Below.queue_law.Kit.{held_live}
-use Rattle.linked_queue.proofs.Below.queue_law.Lessons.{reads_calm}
-use Rattle.linked_queue.proofs.Below.queue_law.Seen.{before_here, before_present}
+use Rattle.linked_queue.proofs.Below.queue_law_Deeds as deeds
+use Rattle.linked_queue.proofs.Below.queue_law_Effects.{calm_quiet}
+use Rattle.linked_queue.proofs.Below.queue_law_Kit.{held_live}
+use Rattle.linked_queue.proofs.Below.queue_law_Lessons.{reads_calm}
+use Rattle.linked_queue.proofs.Below.queue_law_Seen.{before_here, before_present}
 
 -- the deed that learns whether the field is set is ready, and the seat holds the node before
 pub record HeldSetReady (u : Ends) (own : OwnPart) (v : View) (step : PlainAct) : Type 0 where

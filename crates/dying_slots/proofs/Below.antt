@@ -1,3 +1,4 @@
 -- What callers cite of the proofs below.
-pub use Rattle.core_functions.proofs as core_functions
-pub use Rattle.core_functions.proofs.Below.eject_scan as eject_scan
+pub use Rattle.core_functions.proofs.FirstBad as core_functions_FirstBad
+pub use Rattle.core_functions.proofs.Snapshots as core_functions_Snapshots
+pub use Rattle.core_functions.proofs.Below.eject_scan_Announcements as eject_scan_Announcements

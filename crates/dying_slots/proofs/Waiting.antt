@@ -9,7 +9,7 @@ use Rattle.std.proofs.lemmas.List.Sums.{length-filter, count_by-le-length}
 use Rattle.core_functions.specs.plain_state.declared.slot.SlotId.{SlotId}
 use Rattle.core_functions.specs.plain_state.Ejection.{Announcements, ripened, ripens}
 use Rattle.core_functions.specs.plain_state.Lists.{times, is_slot}
-use Rattle.core_functions.proofs.Below.plain_state.Kit.{slot_is, held_same, held_other, times_none, times_cons, times_append}
+use Rattle.core_functions.proofs.Below.plain_state_Kit.{slot_is, held_same, held_other, times_none, times_cons, times_append}
 use Rattle.core_functions.specs.core_events.Views.{without}
 use Rattle.dying_slots.specs.Dying.{is_free, waiting_of}
 

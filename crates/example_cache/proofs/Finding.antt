@@ -10,7 +10,7 @@ use Rattle.cdrc.specs.plain_protocol.Owns.{OwnPart, HasSlot}
 use Rattle.cdrc.specs.core_events.declared.view.CoreView.{CoreView}
 use Rattle.cdrc.specs.core_events.Shows.{show_seat}
 use Rattle.cdrc.specs.core_events.Words.{slot_in}
-use Rattle.cdrc.proofs.Below.core_law.Kit.{one_same, times_push}
+use Rattle.cdrc.proofs.Below.core_law_Kit.{one_same, times_push}
 use Rattle.cdrc.specs.counted_handles.Handles.{Handle}
 use Rattle.cdrc.specs.counted_handles.declared.refusal.LoadError.{LoadError}
 use Rattle.cdrc.specs.counted_handles.declared.refusal.LoadError.TheVariants as refused
@@ -20,7 +20,7 @@ use Rattle.cdrc.specs.acquire_retire.Seats.{SeatState}
 use Rattle.cdrc.specs.control_word.Resting.{IsAtRest}
 use Rattle.cdrc.specs.protected_loads.Loads.{Misses}
 use Rattle.cdrc.specs.protected_loads.References.{Loads}
-use Rattle.cdrc.proofs.Below.protected_loads.Learning.{batch, batch_loaded, batch_moved, checked, client_found, client_moved, client_null, has_found, known_found}
+use Rattle.cdrc.proofs.Below.protected_loads_Learning.{batch, batch_loaded, batch_moved, checked, client_found, client_moved, client_null, has_found, known_found}
 use Rattle.cdrc.specs.protocol_pairs.Values.{value_of}
 use Rattle.example_cache.specs.Views.{View}
 use Rattle.example_cache.specs.Deeds.{RecallTells, recall_next}

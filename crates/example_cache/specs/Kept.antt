@@ -11,9 +11,9 @@ use Rattle.cdrc.specs.plain_state.Lawful.{Lawful}
 use Rattle.cdrc.specs.plain_state.Steps.{Does}
 use Rattle.cdrc.specs.plain_protocol.Calm.{IsMade}
 use Rattle.cdrc.specs.plain_protocol.Laws.{Starts, KeptByCalm, KeptByForeign, KeptByLeave}
-use Rattle.cdrc.proofs.Below.protocol_pairs.Leaves.{calm_is_foreign, foreign_leaves}
-use Rattle.cdrc.proofs.Below.protocol_pairs.Notes.{none_noted, noted_after, noted_before, noted_cases, noted_still}
-use Rattle.cdrc.proofs.Below.protocol_pairs.WeaklyHeld.{goes_on, weak_cell_times}
+use Rattle.cdrc.proofs.Below.protocol_pairs_Leaves.{calm_is_foreign, foreign_leaves}
+use Rattle.cdrc.proofs.Below.protocol_pairs_Notes.{none_noted, noted_after, noted_before, noted_cases, noted_still}
+use Rattle.cdrc.proofs.Below.protocol_pairs_WeaklyHeld.{goes_on, weak_cell_times}
 use Rattle.example_cache.specs.Views.{View, WasRemembered, joined, no_view, view_at}
 use Rattle.example_cache.specs.Cache.{Cache, Holds, owns}
 

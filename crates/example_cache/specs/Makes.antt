@@ -16,10 +16,10 @@ use Rattle.cdrc.specs.plain_protocol.Calm.{IsMade}
 use Rattle.cdrc.specs.plain_protocol.Laws.{Meets, Keeps}
 use Rattle.cdrc.specs.plain_protocol.Owns.{has_slot, object_of, own_part}
 use Rattle.cdrc.specs.protocol_pairs.Values.{value_of}
-use Rattle.cdrc.proofs.Below.protocol_pairs.Held.{held_has}
-use Rattle.cdrc.proofs.Below.protocol_pairs.Notes.{noted_here}
-use Rattle.cdrc.proofs.Below.protocol_pairs.Owning.{owned_live}
-use Rattle.cdrc.proofs.Below.protocol_pairs.Values.{value_had, value_in}
+use Rattle.cdrc.proofs.Below.protocol_pairs_Held.{held_has}
+use Rattle.cdrc.proofs.Below.protocol_pairs_Notes.{noted_here}
+use Rattle.cdrc.proofs.Below.protocol_pairs_Owning.{owned_live}
+use Rattle.cdrc.proofs.Below.protocol_pairs_Values.{value_had, value_in}
 use Rattle.example_cache.specs.Views.{View, WasRemembered, no_view, view_at}
 use Rattle.example_cache.specs.Cache.{Cache, Holds}
 use Rattle.example_cache.specs.Deeds.{OwnsIt, RecallReady, RecallTells, RememberReady, RememberTells, recall_next, remember_next, value_put}

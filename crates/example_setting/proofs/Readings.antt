@@ -13,7 +13,7 @@ use Rattle.cdrc.specs.core_events.declared.act.Act.TheVariants as act
 use Rattle.cdrc.specs.core_events.declared.outcome.Outcome.TheVariants as outcome
 use Rattle.cdrc.specs.core_events.Shows.{show_seat}
 use Rattle.cdrc.specs.core_events.Words.{slot_in}
-use Rattle.cdrc.proofs.Below.core_law.ShownPlaces.{word_slot}
+use Rattle.cdrc.proofs.Below.core_law_ShownPlaces.{word_slot}
 use Rattle.cdrc.specs.counted_handles.declared.refusal.LoadError.{LoadError}
 use Rattle.cdrc.specs.counted_handles.declared.refusal.LoadError.TheVariants as refused
 use Rattle.cdrc.specs.domain_rule.Views.{object_in, own_of}
@@ -23,14 +23,14 @@ use Rattle.cdrc.specs.acquire_retire.Notes.{least_free}
 use Rattle.cdrc.specs.acquire_retire.Seats.{SeatState}
 use Rattle.cdrc.specs.control_word.Resting.{IsAtRest}
 use Rattle.cdrc.specs.protected_loads.Loads.{Misses, Protects}
-use Rattle.cdrc.proofs.Below.protected_loads.Checking.{valid_word}
-use Rattle.cdrc.proofs.Below.protected_loads.Learning.{client_found, client_null, has_found, known_found}
-use Rattle.cdrc.proofs.Below.protected_loads.Protecting.{holds_snapshot}
-use Rattle.cdrc.proofs.Below.protected_loads.Telling.{four_notes, holds_has}
+use Rattle.cdrc.proofs.Below.protected_loads_Checking.{valid_word}
+use Rattle.cdrc.proofs.Below.protected_loads_Learning.{client_found, client_null, has_found, known_found}
+use Rattle.cdrc.proofs.Below.protected_loads_Protecting.{holds_snapshot}
+use Rattle.cdrc.proofs.Below.protected_loads_Telling.{four_notes, holds_has}
 use Rattle.cdrc.specs.snapshot_ptr.Handles.{Snap, slot_under}
 use Rattle.cdrc.specs.snapshot_ptr.Taking.{IsReadyToTake, Takes, word_taken}
-use Rattle.cdrc.proofs.Below.snapshot_ptr.Taken.{IsFreeIfThere, least_is_there}
-use Rattle.cdrc.proofs.Below.snapshot_ptr.Under.{IsFreeWord}
+use Rattle.cdrc.proofs.Below.snapshot_ptr_Taken.{IsFreeIfThere, least_is_there}
+use Rattle.cdrc.proofs.Below.snapshot_ptr_Under.{IsFreeWord}
 use Rattle.example_setting.specs.Views.{View}
 use Rattle.example_setting.specs.Calls.{Reads, read_too}
 use Rattle.example_setting.specs.Deeds.{ReadReady, read_next, value_of}

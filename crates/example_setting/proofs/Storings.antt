@@ -9,7 +9,7 @@ use Rattle.cdrc.specs.core_events.declared.view.CoreView.{CoreView}
 use Rattle.cdrc.specs.core_events.declared.view.Move.{Move}
 use Rattle.cdrc.specs.core_events.Shows.{show_seat}
 use Rattle.cdrc.specs.core_events.Steps.{without_given}
-use Rattle.cdrc.proofs.Below.core_law.Kit.{one_same, times_push, times_without}
+use Rattle.cdrc.proofs.Below.core_law_Kit.{one_same, times_push, times_without}
 use Rattle.cdrc.specs.control_word.Moves.{KnowsStill}
 use Rattle.cdrc.specs.acquire_retire.Seats.{SeatState}
 use Rattle.cdrc.specs.slot_store.Calls.{with_made}

@@ -9,8 +9,8 @@ use Rattle.cdrc.specs.plain_state.declared.slot.SlotId.{SlotId}
 use Rattle.cdrc.specs.plain_state.State.{Plain, slot_at}
 use Rattle.cdrc.specs.plain_state.Lawful.{Lawful}
 use Rattle.cdrc.specs.plain_protocol.Laws.{Starts, KeptByCalm, KeptByForeign}
-use Rattle.cdrc.proofs.Below.protocol_pairs.Held.{cell_live}
-use Rattle.cdrc.proofs.Below.protocol_pairs.Leaves.{calm_is_foreign, foreign_leaves}
+use Rattle.cdrc.proofs.Below.protocol_pairs_Held.{cell_live}
+use Rattle.cdrc.proofs.Below.protocol_pairs_Leaves.{calm_is_foreign, foreign_leaves}
 use Rattle.cdrc.specs.protocol_pairs.Untouched.{IsUntouched}
 use Rattle.example_setting.specs.Views.{View, no_view, view_at}
 use Rattle.example_setting.specs.Setting.{WasStored, Holds, Setting, owns}

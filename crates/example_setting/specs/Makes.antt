@@ -10,12 +10,12 @@ use Rattle.cdrc.specs.plain_state.declared.act.PlainAct.TheVariants as act
 use Rattle.cdrc.specs.plain_state.declared.slot.SlotId.{SlotId}
 use Rattle.cdrc.specs.plain_state.State.{Plain, new_slot, seat_at, slot_at}
 use Rattle.cdrc.specs.plain_state.Steps.{Does, word_of}
-use Rattle.cdrc.proofs.Below.plain_state.Kit.{times_lost}
+use Rattle.cdrc.proofs.Below.plain_state_Kit.{times_lost}
 use Rattle.cdrc.specs.plain_protocol.Acts.{IsCalm}
 use Rattle.cdrc.specs.plain_protocol.Laws.{Meets, Keeps}
 use Rattle.cdrc.specs.plain_protocol.Owns.{HasSlot, has_slot, object_of, own_part}
-use Rattle.cdrc.proofs.Below.protocol_pairs.Held.{has_object, held_has}
-use Rattle.cdrc.proofs.Below.protocol_pairs.Leaves.{calm_is_foreign, foreign_leaves}
+use Rattle.cdrc.proofs.Below.protocol_pairs_Held.{has_object, held_has}
+use Rattle.cdrc.proofs.Below.protocol_pairs_Leaves.{calm_is_foreign, foreign_leaves}
 use Rattle.cdrc.specs.protocol_pairs.Untouched.{IsUntouched}
 use Rattle.example_setting.specs.Views.{View, no_view, view_at}
 use Rattle.example_setting.specs.Setting.{WasStored, Holds, Setting, owns}

@@ -3,7 +3,7 @@ use Rattle.std.proofs.Common.{◌≡◌, ℕ, zero, suc, List, refl, Option, Som
 use Rattle.cdrc.specs.plain_state.declared.slot.SlotId.{SlotId}
 use Rattle.cdrc.specs.plain_state.Lawful.{Lawful}
 use Rattle.cdrc.specs.plain_state.State.{Plain, slot_at}
-use Rattle.cdrc.proofs.Below.protocol_pairs.Held.{cell_live, first_live}
+use Rattle.cdrc.proofs.Below.protocol_pairs_Held.{cell_live, first_live}
 use Rattle.example_stack.specs.Views.{View, WasPushed}
 use Rattle.example_stack.specs.Stack.{IsNode, Stack, below_of, node_at}
 

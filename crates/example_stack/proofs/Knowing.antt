@@ -8,10 +8,10 @@ use Rattle.cdrc.specs.plain_protocol.Owns.{HasSlot}
 use Rattle.cdrc.specs.core_events.declared.view.CoreView.{CoreView}
 use Rattle.cdrc.specs.core_events.Shows.{show_seat}
 use Rattle.cdrc.specs.core_events.Steps.{CanGive, without_given}
-use Rattle.cdrc.proofs.Below.core_law.Kit.{one_same, times_push, times_without}
+use Rattle.cdrc.proofs.Below.core_law_Kit.{one_same, times_push, times_without}
 use Rattle.cdrc.specs.domain_rule.Views.{object_in, own_of}
 use Rattle.cdrc.specs.acquire_retire.Seats.{SeatState}
-use Rattle.cdrc.proofs.Below.protected_loads.Telling.{holds_has}
+use Rattle.cdrc.proofs.Below.protected_loads_Telling.{holds_has}
 use Rattle.cdrc.specs.protocol_pairs.Spared.{HasOneOf}
 use Rattle.example_stack.specs.Views.{View}
 use Rattle.example_stack.specs.Deeds.{OwnsNode, SawIt, SawObject}

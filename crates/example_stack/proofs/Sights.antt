@@ -12,7 +12,7 @@ use Rattle.cdrc.specs.plain_state.Places.{place_kind}
 use Rattle.cdrc.specs.plain_protocol.Owns.{Object, OwnPart}
 use Rattle.cdrc.specs.core_events.declared.view.CoreView.{CoreView}
 use Rattle.cdrc.specs.core_events.Words.{slot_in}
-use Rattle.cdrc.proofs.Below.core_law.Kit.{one_same, times_push}
+use Rattle.cdrc.proofs.Below.core_law_Kit.{one_same, times_push}
 use Rattle.cdrc.specs.counted_handles.Handles.{Handle}
 use Rattle.cdrc.specs.counted_handles.declared.place.Place.{Place}
 use Rattle.cdrc.specs.counted_handles.declared.refusal.LoadError.{LoadError}
@@ -25,7 +25,7 @@ use Rattle.cdrc.specs.atomic_shared.Places.{named, strong_place}
 use Rattle.cdrc.specs.control_word.Resting.{IsAtRest, IsSpent}
 use Rattle.cdrc.specs.protected_loads.Loads.{Announces, FindsNull, Misses}
 use Rattle.cdrc.specs.protected_loads.References.{IsReadyToLoad, Loads, Refers, with_reference}
-use Rattle.cdrc.proofs.Below.protected_loads.Learning.{allowed, batch, batch_loaded, batch_moved, checked, client_found, client_moved, client_null, has_found, known_found, slot_there}
+use Rattle.cdrc.proofs.Below.protected_loads_Learning.{allowed, batch, batch_loaded, batch_moved, checked, client_found, client_moved, client_null, has_found, known_found, slot_there}
 use Rattle.cdrc.specs.protocol_pairs.Values.{value_of}
 use Rattle.example_stack.specs.Views.{View}
 use Rattle.example_stack.specs.Deeds.{IsStackPlace, SeeReady, SeeTells, see_next}

@@ -10,8 +10,8 @@ use Rattle.cdrc.specs.plain_state.Steps.{word_of}
 use Rattle.cdrc.specs.plain_protocol.Owns.{OwnPart}
 use Rattle.cdrc.specs.core_events.Steps.{CanGive, without_given}
 use Rattle.cdrc.specs.core_events.Words.{slot_in}
-use Rattle.cdrc.proofs.Below.core_law.Kit.{one_same, times_push}
-use Rattle.cdrc.proofs.Below.core_law.ShownPlaces.{slot_word}
+use Rattle.cdrc.proofs.Below.core_law_Kit.{one_same, times_push}
+use Rattle.cdrc.proofs.Below.core_law_ShownPlaces.{slot_word}
 use Rattle.cdrc.specs.counted_handles.Handles.{Handle}
 use Rattle.cdrc.specs.counted_handles.declared.refusal.LoadError.{LoadError}
 use Rattle.cdrc.specs.counted_handles.declared.refusal.LoadError.TheVariants as refused

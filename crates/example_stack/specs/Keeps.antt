@@ -12,7 +12,7 @@ use Rattle.example_stack.specs.Views.{View, no_view, view_at}
 use Rattle.example_stack.specs.Stack.{Stack}
 use Rattle.example_stack.specs.Deeds.{LinkReady, MakeReady, PopReady, PushReady, SeeReady, SeeTells, TellsNothing, pop_next, push_next, same_next, see_next}
 use Rattle.std.proofs.lemmas.List.{set-get_or}
-use Rattle.cdrc.proofs.Below.protocol_pairs.Notes.{noted_here}
+use Rattle.cdrc.proofs.Below.protocol_pairs_Notes.{noted_here}
 use Rattle.example_stack.specs.Kept.{stack_calm}
 use Rattle.example_stack.specs.Makes.{found_in, links, makes, pops, pushes, sees}
 

@@ -8,9 +8,9 @@ use Rattle.cdrc.specs.plain_state.declared.slot.Stage.TheVariants.{Free, Live}
 use Rattle.cdrc.specs.plain_state.State.{Plain, new_slot, slot_at, stage_at}
 use Rattle.cdrc.specs.plain_state.Lawful.{Lawful}
 use Rattle.cdrc.specs.plain_protocol.Laws.{Starts, KeptByCalm, KeptByForeign}
-use Rattle.cdrc.proofs.Below.protocol_pairs.Held.{cell_live, first_live}
-use Rattle.cdrc.proofs.Below.protocol_pairs.Leaves.{calm_is_foreign, foreign_leaves}
-use Rattle.cdrc.proofs.Below.protocol_pairs.Notes.{none_noted}
+use Rattle.cdrc.proofs.Below.protocol_pairs_Held.{cell_live, first_live}
+use Rattle.cdrc.proofs.Below.protocol_pairs_Leaves.{calm_is_foreign, foreign_leaves}
+use Rattle.cdrc.proofs.Below.protocol_pairs_Notes.{none_noted}
 use Rattle.cdrc.specs.protocol_pairs.Untouched.{IsUntouched}
 use Rattle.example_stack.specs.Views.{View, WasPushed, no_view}
 use Rattle.example_stack.specs.Stack.{IsNode, Stack, below, owns, top}

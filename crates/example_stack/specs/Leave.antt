@@ -2,7 +2,7 @@
 use Rattle.std.proofs.Common.{◌≡◌, ℕ, ◌<◌, List, length, refl, sym, ap, subst, arith}
 use Rattle.cdrc.specs.plain_state.State.{Plain}
 use Rattle.cdrc.specs.plain_protocol.Laws.{KeptByLeave}
-use Rattle.cdrc.proofs.Below.protocol_pairs.Notes.{noted_after, noted_before}
+use Rattle.cdrc.proofs.Below.protocol_pairs_Notes.{noted_after, noted_before}
 use Rattle.example_stack.specs.Views.{View, joined, no_view}
 use Rattle.example_stack.specs.Stack.{Stack}
 

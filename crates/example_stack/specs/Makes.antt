@@ -18,12 +18,12 @@ use Rattle.cdrc.specs.plain_protocol.Laws.{Meets}
 use Rattle.cdrc.specs.plain_protocol.Owns.{has_slot, object_of, own_part}
 use Rattle.cdrc.specs.protocol_pairs.Spared.{HasOneOf}
 use Rattle.cdrc.specs.protocol_pairs.Untouched.{IsUntouched}
-use Rattle.cdrc.proofs.Below.protocol_pairs.Held.{cell_live, first_live}
-use Rattle.cdrc.proofs.Below.protocol_pairs.Leaves.{calm_is_foreign, foreign_leaves}
-use Rattle.cdrc.proofs.Below.protocol_pairs.Owning.{owned_live}
+use Rattle.cdrc.proofs.Below.protocol_pairs_Held.{cell_live, first_live}
+use Rattle.cdrc.proofs.Below.protocol_pairs_Leaves.{calm_is_foreign, foreign_leaves}
+use Rattle.cdrc.proofs.Below.protocol_pairs_Owning.{owned_live}
 use Rattle.cdrc.specs.protocol_pairs.Values.{value_of}
-use Rattle.cdrc.proofs.Below.protocol_pairs.Values.{one_of_value, value_in}
-use Rattle.cdrc.proofs.Below.protocol_pairs.Notes.{none_in, noted_here, noted_still}
+use Rattle.cdrc.proofs.Below.protocol_pairs_Values.{one_of_value, value_in}
+use Rattle.cdrc.proofs.Below.protocol_pairs_Notes.{none_in, noted_here, noted_still}
 use Rattle.example_stack.specs.Views.{View, WasPushed, no_view, view_at}
 use Rattle.example_stack.specs.Stack.{Stack, below, owns, top}
 use Rattle.example_stack.specs.Deeds.{IsStackPlace, SawIt, pop_next, push_next, see_next}

@@ -9,9 +9,9 @@ use Rattle.cdrc.specs.plain_state.declared.slot.SlotId.{SlotId}
 use Rattle.cdrc.specs.plain_state.declared.slot.Stage.TheVariants.{Live}
 use Rattle.cdrc.specs.plain_state.State.{Plain, new_slot, slot_at}
 use Rattle.cdrc.specs.plain_state.Steps.{word_of}
-use Rattle.cdrc.proofs.Below.plain_state.Kit.{cases_slot, slot_is}
+use Rattle.cdrc.proofs.Below.plain_state_Kit.{cases_slot, slot_is}
 use Rattle.cdrc.specs.plain_protocol.Owns.{Object}
-use Rattle.cdrc.proofs.Below.protocol_pairs.Notes.{noted_cases, noted_still}
+use Rattle.cdrc.proofs.Below.protocol_pairs_Notes.{noted_cases, noted_still}
 use Rattle.example_stack.specs.Views.{View, WasPushed, no_view, view_at}
 use Rattle.example_stack.specs.Stack.{IsNode, Stack, below, top}
 use Rattle.example_stack.specs.Deeds.{SawObject}

@@ -2,7 +2,7 @@
 use Rattle.std.proofs.Common.{ℕ, zero, suc, ◌+◌, ◌<◌, ap, refl, subst, sym, arith}
 use Rattle.std.specs.Prelude.{◌≡◌, All, slice_index_or}
 use Rattle.control_word.specs.core_events.Runs.{IsShape}
-use Rattle.control_word.proofs.Below.core_law.Each.{get_each, length_each}
+use Rattle.control_word.proofs.Below.core_law_Each.{get_each, length_each}
 use Rattle.control_word.specs.acquire_retire.Domains.{DomainState}
 use Rattle.control_word.specs.acquire_retire.Openings.{begun_seat, opened_seats}
 use Rattle.control_word.specs.acquire_retire.Seats.{SeatState}

@@ -4,7 +4,7 @@ use Rattle.std.specs.Prelude.{slice_index_or}
 use Rattle.control_word.specs.plain_state.declared.slot.SlotId.{SlotId}
 use Rattle.control_word.specs.plain_state.Lists.{times}
 use Rattle.control_word.specs.core_events.Views.{without}
-use Rattle.control_word.proofs.Below.core_law.Kit.{one_same, times_cons, times_push, times_without}
+use Rattle.control_word.proofs.Below.core_law_Kit.{one_same, times_cons, times_push, times_without}
 use Rattle.handle_tests.specs.Plays.{IsWithin}
 
 module _ (s : SlotId) (xs ys : List SlotId) where

@@ -10,18 +10,18 @@ use Rattle.lane_files.specs.core_events.declared.view.CoreView.{CoreView}
 use Rattle.lane_files.specs.core_events.Runs.{IsShape}
 use Rattle.lane_files.specs.core_events.Steps.{HasMake, HasRoom}
 use Rattle.lane_files.specs.core_events.Views.{Terms}
-use Rattle.lane_files.proofs.Below.core_law.Each.{get_each, length_each}
+use Rattle.lane_files.proofs.Below.core_law_Each.{get_each, length_each}
 use Rattle.lane_files.specs.domain_rule.Views.{quota_at}
 use Rattle.lane_files.specs.acquire_retire.Domains.{DomainState}
 use Rattle.lane_files.specs.acquire_retire.Openings.{begun_seat}
 use Rattle.lane_files.specs.acquire_retire.Seats.{SeatState}
-use Rattle.lane_files.proofs.Below.control_word.Beginning.{all_at_rest}
+use Rattle.lane_files.proofs.Below.control_word_Beginning.{all_at_rest}
 use Rattle.lane_files.specs.control_word.Resting.{IsAtRest}
 use Rattle.lane_files.specs.claim_law.Claims.{makes_given}
 use Rattle.lane_files.specs.slot_store.Calls.{HasNoMake}
 use Rattle.lane_files.specs.slot_store.declared.making.MakeError.{MakeError}
 use Rattle.lane_files.specs.slot_store.declared.making.MakeError.TheVariants as unmade
-use Rattle.lane_files.proofs.Below.slot_store.Exhausting.{more_makes}
+use Rattle.lane_files.proofs.Below.slot_store_Exhausting.{more_makes}
 use Rattle.lane_files.specs.part_calls.Parts.{StaysBeside}
 use Rattle.lane_files.specs.queue_law.declared.view.Form.{Form}
 use Rattle.lane_files.specs.queue_law.declared.view.Form.TheVariants.{Linked, Double}

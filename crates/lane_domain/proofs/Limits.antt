@@ -9,7 +9,7 @@ use Rattle.lane_files.specs.cdrc_text.Fold.{File}
 use Rattle.lane_files.specs.cdrc_text.Text.{slots_of_word}
 use Rattle.lane_files.specs.declared.file.FileText.{FileText}
 use Rattle.lane_files.specs.declared.work.Work.{Work}
-use Rattle.lane_files.specs.Files.{HasPieces, pieces_in}
+use Rattle.lane_files.specs.FilePieces.{HasPieces, pieces_in}
 use Rattle.lane_files.specs.Work.{IsWork, files_in, words_of}
 use Rattle.lane_files.proofs.Pieces.{pieces_many, sized}
 use Rattle.lane_domain.specs.Sizes.{all_parts, all_pieces, parts_in, slots_of_words, texts_in}

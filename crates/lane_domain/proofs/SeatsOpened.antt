@@ -2,7 +2,7 @@
 use Rattle.std.proofs.Common.{ℕ, ◌+◌, ◌<◌, ◌≤◌, refl, sym, subst, arith}
 use Rattle.std.specs.Prelude.{All}
 use Rattle.lane_files.specs.plain_state.Limits.{most_slots}
-use Rattle.lane_files.proofs.Below.core_law.Each.{get_each, length_each}
+use Rattle.lane_files.proofs.Below.core_law_Each.{get_each, length_each}
 use Rattle.lane_files.specs.acquire_retire.Domains.{DomainState}
 use Rattle.lane_files.specs.acquire_retire.Seats.{SeatState}
 use Rattle.lane_files.specs.queue_law.declared.view.Form.{Form}

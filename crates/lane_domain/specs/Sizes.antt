@@ -6,7 +6,7 @@ use Rattle.lane_files.specs.cdrc_text.Fold.{File}
 use Rattle.lane_files.specs.cdrc_text.Text.{slots_of_word}
 use Rattle.lane_files.specs.declared.file.FileText.{FileText}
 use Rattle.lane_files.specs.declared.work.Work.{Work}
-use Rattle.lane_files.specs.Files.{pieces_in}
+use Rattle.lane_files.specs.FilePieces.{pieces_in}
 use Rattle.lane_files.specs.Work.{all_tickets, words_of}
 
 -- the most lanes: seat 0 is none of a lane

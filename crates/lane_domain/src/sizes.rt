@@ -1,6 +1,6 @@
 //! How much of a domain some work takes.
 ghost use Rattle.std.specs.Prelude.{◌≡◌, ◌^◌, ◌≤◌, ◌↔◌, IsTrue, length};
-ghost use Rattle.lane_files.specs.Files.{HasPieces, pieces_in};
+ghost use Rattle.lane_files.specs.FilePieces.{HasPieces, pieces_in};
 ghost use Rattle.lane_files.specs.Work.{IsWork};
 ghost use Rattle.lane_domain.specs.Sizes.{IsWithinLimits, all_parts, all_pieces, parts_in};
 

@@ -17,7 +17,7 @@ use Rattle.control_word.specs.acquire_retire.Seats.{SeatState}
 use Rattle.control_word.specs.Moves.{Becomes}
 use Rattle.control_word.specs.Resting.{IsAtRest}
 use Rattle.control_word.proofs.Becoming.{knows_after, one_step, rest_after}
-use Rattle.hand_queues.proofs.Below.protected_loads.Telling.{holds_has}
+use Rattle.hand_queues.proofs.Below.protected_loads_Telling.{holds_has}
 use Rattle.words_protocol.specs.queue_law.Lists.{taken_items}
 use Rattle.words_protocol.specs.directory_law.declared.view.Ran.{Ran}
 use Rattle.words_protocol.specs.directory_law.Cells.{Area}
@@ -25,7 +25,7 @@ use Rattle.words_protocol.specs.directory_law.Lessons.{starts_at}
 use Rattle.words_protocol.specs.directory_law.Payloads.{IsHead}
 use Rattle.words_protocol.specs.directory_law.Steps.{life_in, life_of, payload_in, payload_of}
 use Rattle.words_protocol.specs.directory_law.Views.{In}
-use Rattle.weak_intern.proofs.Below.directory_calls.Going.{leaves_core}
+use Rattle.weak_intern.proofs.Below.directory_calls_Going.{leaves_core}
 use Rattle.weak_intern.specs.text_reading.Reading.{begun}
 use Rattle.words_protocol.specs.words_law.Reading.{BeginReady, BeginTells, begin_next}
 use Rattle.words_protocol.specs.words_law.Views.{View}

@@ -1,6 +1,7 @@
 -- What callers cite of the proofs below.
-pub use Rattle.control_word.proofs as control_word
-pub use Rattle.control_word.proofs.Below.core_law as core_law
-pub use Rattle.weak_intern.proofs.Below.directory_calls as directory_calls
-pub use Rattle.lane_gate.proofs as lane_gate
-pub use Rattle.hand_queues.proofs.Below.slot_store as slot_store
+pub use Rattle.control_word.proofs.Beginning as control_word_Beginning
+pub use Rattle.control_word.proofs.Below.core_law_Each as core_law_Each
+pub use Rattle.weak_intern.proofs.Below.directory_calls_Going as directory_calls_Going
+pub use Rattle.weak_intern.proofs.Below.directory_calls_Learnt as directory_calls_Learnt
+pub use Rattle.lane_gate.proofs.Known as lane_gate_Known
+pub use Rattle.hand_queues.proofs.Below.slot_store_Exhausting as slot_store_Exhausting

@@ -3,7 +3,7 @@ use Rattle.std.proofs.Common.{◌≡◌, ◌⊎◌, inl, inr, ⊎_elim, ℕ, ◌
 use Rattle.std.specs.Prelude.{Err, Ok, OnErr, OnOk, Result}
 use Rattle.control_word.specs.plain_state.Lists.{times}
 use Rattle.control_word.specs.core_events.Views.{without}
-use Rattle.hand_queues.proofs.Below.protected_loads.Telling.{holds_has}
+use Rattle.hand_queues.proofs.Below.protected_loads_Telling.{holds_has}
 use Rattle.words_protocol.specs.directory_law.Bytes.{text_bytes}
 use Rattle.weak_intern.specs.directory_calls.Directories.{HasQuota}
 use Rattle.hand_queues.specs.linked_queue.Queues.{IsAttached}
@@ -19,7 +19,7 @@ use Rattle.control_word.specs.Calls.{DropsStrong, GainsStrong, with_strong, with
 use Rattle.control_word.specs.Moves.{KnowsStill}
 use Rattle.control_word.specs.core_events.Steps.{HasRoom}
 use Rattle.control_word.specs.Resting.{IsAtRest, IsSpent}
-use Rattle.weak_intern.proofs.Below.directory_calls.Going.{leaves_core}
+use Rattle.weak_intern.proofs.Below.directory_calls_Going.{leaves_core}
 use Rattle.words_protocol.specs.directory_law.declared.view.Ran.{Ran}
 use Rattle.words_protocol.specs.directory_law.Payloads.{IsText, Text}
 use Rattle.words_protocol.specs.directory_law.Views.{In, rope}

@@ -4,7 +4,7 @@ use Rattle.control_word.specs.plain_state.declared.slot.SlotId.{SlotId}
 use Rattle.control_word.specs.plain_state.Lists.{times}
 use Rattle.control_word.specs.core_events.declared.view.CoreView.{CoreView}
 use Rattle.control_word.specs.core_events.Views.{Holds, held_times}
-use Rattle.control_word.proofs.Below.core_law.Kit.{times_none}
+use Rattle.control_word.proofs.Below.core_law_Kit.{times_none}
 use Rattle.control_word.specs.acquire_retire.Domains.{DomainState}
 use Rattle.control_word.specs.acquire_retire.Seats.{SeatState}
 use Rattle.weak_intern.specs.directory_calls.Directories.{area_of}

@@ -5,7 +5,7 @@ use Rattle.std.proofs.lemmas.List.{drop-append-le, map-append}
 use Rattle.control_word.specs.plain_state.declared.slot.SlotId.{SlotId}
 use Rattle.control_word.specs.plain_state.Lists.{times}
 use Rattle.control_word.specs.core_events.Views.{without}
-use Rattle.control_word.proofs.Below.core_law.Kit.{one_same, times_append, times_cons, times_none, times_without}
+use Rattle.control_word.proofs.Below.core_law_Kit.{one_same, times_append, times_cons, times_none, times_without}
 use Rattle.control_word.specs.counted_handles.Handles.{Handle}
 use Rattle.control_word.specs.acquire_retire.Seats.{SeatState}
 use Rattle.words_protocol.specs.words_law.Views.{View}

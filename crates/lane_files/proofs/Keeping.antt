@@ -6,7 +6,7 @@ use Rattle.std.proofs.lemmas.List.{append-nil}
 use Rattle.control_word.specs.plain_state.declared.slot.SlotId.{SlotId}
 use Rattle.control_word.specs.plain_state.Lists.{times}
 use Rattle.control_word.specs.core_events.Views.{without}
-use Rattle.control_word.proofs.Below.core_law.Kit.{times_push, times_without}
+use Rattle.control_word.proofs.Below.core_law_Kit.{times_push, times_without}
 use Rattle.control_word.specs.counted_handles.Handles.{Handle}
 use Rattle.control_word.specs.acquire_retire.Seats.{SeatState}
 use Rattle.words_protocol.specs.words_law.Views.{View}

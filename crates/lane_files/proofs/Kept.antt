@@ -5,7 +5,7 @@ use Rattle.control_word.specs.plain_state.declared.slot.SlotId.{SlotId}
 use Rattle.control_word.specs.plain_state.Lists.{times}
 use Rattle.control_word.specs.core_events.Views.{without}
 use Rattle.control_word.specs.core_events.Counts.{one}
-use Rattle.control_word.proofs.Below.core_law.Kit.{one_same, times_append, times_push, times_without}
+use Rattle.control_word.proofs.Below.core_law_Kit.{one_same, times_append, times_push, times_without}
 use Rattle.control_word.specs.counted_handles.Handles.{Handle}
 use Rattle.control_word.specs.acquire_retire.Seats.{SeatState}
 use Rattle.weak_intern.specs.Knowing.{KnowsRecord}

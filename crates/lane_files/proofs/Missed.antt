@@ -10,7 +10,7 @@ use Rattle.control_word.specs.core_events.declared.view.Move.{Move}
 use Rattle.control_word.specs.core_events.Runs.{AreTerms, Core, History, IsShape, after, view_at}
 use Rattle.control_word.specs.core_events.Steps.{HasMake}
 use Rattle.hand_queues.specs.claim_law.Claims.{ShowsTaken, makes_given}
-use Rattle.hand_queues.proofs.Below.claim_law.Taken.{taken_slots_were_made}
+use Rattle.hand_queues.proofs.Below.claim_law_Taken.{taken_slots_were_made}
 use Rattle.control_word.specs.acquire_retire.Collecting.{Walks, move}
 use Rattle.control_word.specs.acquire_retire.Domains.{DomainState}
 use Rattle.control_word.specs.acquire_retire.Seats.{SeatState}

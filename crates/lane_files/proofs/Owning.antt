@@ -3,7 +3,7 @@ use Rattle.std.proofs.Common.{◌≡◌, ⊎_elim, ℕ, ◌<◌, List, [], ◌�
 use Rattle.std.specs.Prelude.{Some}
 use Rattle.control_word.specs.plain_state.declared.slot.SlotId.{SlotId}
 use Rattle.control_word.specs.plain_state.Lists.{times}
-use Rattle.control_word.proofs.Below.core_law.Kit.{times_append, times_cons, times_none}
+use Rattle.control_word.proofs.Below.core_law_Kit.{times_append, times_cons, times_none}
 use Rattle.control_word.specs.domain_rule.Views.{object_in}
 use Rattle.control_word.specs.acquire_retire.Domains.{DomainState}
 use Rattle.control_word.specs.acquire_retire.Seats.{SeatState}

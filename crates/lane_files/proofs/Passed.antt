@@ -3,7 +3,7 @@ use Rattle.std.proofs.Common.{◌≡◌, inl, inr, ⊎_elim, ℕ, ◌<◌, ◌�
 use Rattle.std.specs.Prelude.{Err, Ok, OnOk, Result, cond, slice_index_or}
 use Rattle.control_word.specs.plain_state.declared.slot.SlotId.{SlotId}
 use Rattle.control_word.specs.plain_state.Lists.{times}
-use Rattle.control_word.proofs.Below.core_law.Kit.{one_same, times_push}
+use Rattle.control_word.proofs.Below.core_law_Kit.{one_same, times_push}
 use Rattle.control_word.specs.acquire_retire.Domains.{DomainState}
 use Rattle.control_word.specs.acquire_retire.Seats.{SeatState}
 use Rattle.control_word.specs.Resting.{IsSpent}
@@ -11,7 +11,7 @@ use Rattle.control_word.specs.domain_rule.Views.{object_in}
 use Rattle.std.proofs.lemmas.List.Elements.{All-from_get_or}
 use Rattle.words_protocol.specs.directory_law.Bytes.{text_bytes}
 use Rattle.words_protocol.specs.directory_law.Payloads.{Text}
-use Rattle.words_protocol.proofs.Below.directory_law.Bytes.{text_tells}
+use Rattle.words_protocol.proofs.Below.directory_law_Bytes.{text_tells}
 use Rattle.weak_intern.specs.Knowing.{Knows, KnowsRecord}
 use Rattle.words_protocol.specs.words_law.Views.{View}
 use Rattle.words_protocol.specs.declared.law.WordsLaw.{WordsLaw}

@@ -5,7 +5,7 @@ use Rattle.std.proofs.lemmas.List.{get_or-map, length-drop, length-map, length-t
 use Rattle.std.proofs.lemmas.List.Elements.{All-get_or}
 use Rattle.words_protocol.specs.cdrc_text.Pieces.{bytes_at}
 use Rattle.lane_files.specs.declared.file.FileText.{FileText}
-use Rattle.lane_files.specs.Files.{HasPieces, IsLongPlace, pieces_in}
+use Rattle.lane_files.specs.FilePieces.{HasPieces, IsLongPlace, pieces_in}
 
 module _ (file : FileText) (has : HasPieces file) (n : ℕ) (there : n < length file.pieces) where
   at_n : IsLongPlace (length file.bytes.items) (slice_index_or file.pieces n (0, 0))

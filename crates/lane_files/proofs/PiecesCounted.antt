@@ -14,7 +14,7 @@ use Rattle.words_protocol.specs.directory_law.declared.view.View.{View as Direct
 use Rattle.words_protocol.specs.directory_law.Bytes.{text_bytes}
 use Rattle.words_protocol.specs.words_law.Known.{ForgetsNothing, KnowsMore}
 use Rattle.words_protocol.specs.words_law.Views.{View}
-use Rattle.words_protocol.proofs.Below.words_law.Known.{knows_all_more, knows_both}
+use Rattle.words_protocol.proofs.Below.words_law_Known.{knows_all_more, knows_both}
 use Rattle.lane_files.specs.Passed.{Counts, KnowsWords, Takes, Tallies, by_seat, did}
 
 pub more_none : (v : DirectoryView) → ForgetsNothing v v

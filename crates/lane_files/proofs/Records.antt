@@ -6,7 +6,7 @@ use Rattle.std.proofs.lemmas.Bool.Decides.{nat_tests}
 use Rattle.control_word.specs.plain_state.declared.slot.SlotId.{SlotId}
 use Rattle.control_word.specs.plain_state.Lists.{times}
 use Rattle.control_word.specs.core_events.Counts.{one}
-use Rattle.control_word.proofs.Below.core_law.Kit.{one_other, one_same, times_append, times_cons, times_none, times_push}
+use Rattle.control_word.proofs.Below.core_law_Kit.{one_other, one_same, times_append, times_cons, times_none, times_push}
 use Rattle.control_word.specs.counted_handles.Handles.{Handle}
 use Rattle.control_word.specs.domain_rule.Views.{object_in}
 use Rattle.control_word.specs.acquire_retire.Seats.{SeatState}

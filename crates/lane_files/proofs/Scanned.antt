@@ -14,7 +14,7 @@ use Rattle.control_word.specs.core_events.declared.outcome.Outcome.{Outcome}
 use Rattle.control_word.specs.core_events.declared.outcome.Outcome.TheVariants as outcome
 use Rattle.control_word.specs.core_events.declared.view.CoreView.{CoreView}
 use Rattle.control_word.specs.core_events.declared.view.Move.{Move}
-use Rattle.control_word.proofs.Below.core_law.Trails.{changed_trail}
+use Rattle.control_word.proofs.Below.core_law_Trails.{changed_trail}
 use Rattle.control_word.specs.acquire_retire.Calls.{IsSameView, Steps, same_view}
 use Rattle.control_word.specs.acquire_retire.Collecting.{Walks, move, paid_by, read_by, scanned_by}
 use Rattle.control_word.specs.acquire_retire.Domains.{DomainState}

@@ -6,17 +6,17 @@ use Rattle.control_word.specs.core_events.declared.view.CoreView.{CoreView}
 use Rattle.control_word.specs.core_events.declared.view.Move.{Move}
 use Rattle.control_word.specs.core_events.Steps.{HasRoom}
 use Rattle.control_word.specs.core_events.Views.{Holds, without}
-use Rattle.control_word.proofs.Below.core_law.Kit.{one_same, times_push, times_without}
+use Rattle.control_word.proofs.Below.core_law_Kit.{one_same, times_push, times_without}
 use Rattle.control_word.specs.acquire_retire.Domains.{DomainState}
 use Rattle.control_word.specs.acquire_retire.Seats.{SeatState}
 use Rattle.control_word.specs.acquire_retire.Collecting.{ends}
 use Rattle.control_word.specs.Calls.{DropsStrong, with_ended, without_strong}
 use Rattle.control_word.specs.Moves.{KnowsStill}
 use Rattle.control_word.specs.Resting.{IsAtRest, IsSpent}
-use Rattle.hand_queues.proofs.Below.protected_loads.Telling.{holds_has}
+use Rattle.hand_queues.proofs.Below.protected_loads_Telling.{holds_has}
 use Rattle.weak_intern.specs.directory_calls.Directories.{HasQuota}
 use Rattle.weak_intern.specs.directory_calls.Steps.{Leaves}
-use Rattle.weak_intern.proofs.Below.directory_calls.Going.{holds_by, leaves_less}
+use Rattle.weak_intern.proofs.Below.directory_calls_Going.{holds_by, leaves_less}
 use Rattle.weak_intern.specs.text_reading.Reading.{HasTwoFree}
 use Rattle.hand_queues.specs.linked_queue.Leaving as queue
 use Rattle.hand_queues.specs.double_link_queue.Leaving.{LeavesBoth}

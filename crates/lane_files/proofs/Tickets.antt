@@ -7,7 +7,7 @@ use Rattle.std.proofs.lemmas.List.Concat.{flat_map-append}
 use Rattle.std.proofs.lemmas.List.Elements.{filter-append}
 use Rattle.control_word.specs.plain_state.declared.slot.SlotId.{SlotId}
 use Rattle.control_word.specs.plain_state.Lists.{times}
-use Rattle.control_word.proofs.Below.core_law.Kit.{times_append}
+use Rattle.control_word.proofs.Below.core_law_Kit.{times_append}
 use Rattle.control_word.specs.counted_handles.Handles.{Handle}
 use Rattle.control_word.specs.domain_rule.Views.{object_in}
 use Rattle.control_word.specs.acquire_retire.Domains.{DomainState}

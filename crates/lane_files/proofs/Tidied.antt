@@ -6,12 +6,12 @@ use Rattle.control_word.specs.core_events.declared.view.CoreView.{CoreView}
 use Rattle.control_word.specs.acquire_retire.Collecting.{rest_of}
 use Rattle.control_word.specs.acquire_retire.Domains.{DomainState}
 use Rattle.control_word.specs.acquire_retire.Seats.{SeatState}
-use Rattle.hand_queues.proofs.Below.protected_loads.Telling.{holds_has}
+use Rattle.hand_queues.proofs.Below.protected_loads_Telling.{holds_has}
 use Rattle.hand_queues.specs.retiring_stores.Scanning.{Collected}
 use Rattle.hand_queues.specs.slot_store.Reaping.{Answers, KnowsBoth}
 use Rattle.words_protocol.specs.words_law.Views.{View}
 use Rattle.words_protocol.specs.declared.law.WordsLaw.{WordsLaw}
-use Rattle.hand_queues.proofs.Below.slot_store.Passing.{passes_collect}
+use Rattle.hand_queues.proofs.Below.slot_store_Passing.{passes_collect}
 use Rattle.lane_files.specs.declared.shared.Shared.{Shared}
 use Rattle.lane_files.specs.Ready.{IsReady, Owns}
 use Rattle.lane_files.specs.Scans.{scans_of}

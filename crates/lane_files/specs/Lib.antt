@@ -33,7 +33,7 @@ pub mod Ready
 pub mod Scans
 pub mod Whys
 pub mod Counting
-pub mod Files
+pub mod FilePieces
 pub mod Keeping
 pub mod Lanes
 pub mod Makes

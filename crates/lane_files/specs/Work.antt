@@ -2,7 +2,7 @@
 use Rattle.std.specs.Prelude.{ℕ, ◌-◌, ◌≤◌, ◌*◌, ◌/◌, ◌%◌, ◌^◌, All, Bool, List, [], length, map, nat_le, slice_index_or}
 use Rattle.std.specs.List.{filter, flat_map}
 use Rattle.lane_files.specs.declared.work.Work.{Work}
-use Rattle.lane_files.specs.Files.{HasPieces, pieces_in}
+use Rattle.lane_files.specs.FilePieces.{HasPieces, pieces_in}
 
 abbrev pub files_in : Work → ℕ
 files_in work = length work.files.items

@@ -9,7 +9,7 @@ ghost use Rattle.words_protocol.specs.cdrc_text.Text.{slots_of_word};
 ghost use Rattle.lane_files.specs.PieceMakes.{LacksMake};
 ghost use Rattle.lane_files.specs.Ready.{IsReady, Owns};
 ghost use Rattle.lane_files.specs.Counting.{CountsFile, IsWhyStopped, StopsInFile};
-ghost use Rattle.lane_files.specs.Files.{HasPieces, pieces_in};
+ghost use Rattle.lane_files.specs.FilePieces.{HasPieces, pieces_in};
 ghost use Rattle.lane_files.specs.Keeping.{IsSameKeeper, has};
 ghost use Rattle.lane_files.specs.Makes.{cause_at};
 ghost use Rattle.lane_files.specs.Next.{CountsNext};

@@ -2,7 +2,7 @@
 ghost use Rattle.std.specs.Prelude.{◌≡◌, ◌<◌, ◌≤◌, [], IfErr, IfOk, length, slice_index_or};
 ghost use Rattle.words_protocol.specs.cdrc_text.Pieces.{pieces_of};
 ghost use Rattle.words_protocol.specs.cdrc_text.Refused.{IsCauseOf};
-ghost use Rattle.lane_files.specs.Files.{HasPieces, pieces_in};
+ghost use Rattle.lane_files.specs.FilePieces.{HasPieces, pieces_in};
 
 use std::alloc::Global;
 use words_protocol::{Pieces, PiecesError, pieces};

@@ -1,6 +1,6 @@
 //! What the lanes do together.
 ghost use Rattle.std.specs.Prelude.{◌≡◌};
-ghost use Rattle.lane_files.specs.Files.{HasPieces, pieces_in};
+ghost use Rattle.lane_files.specs.FilePieces.{HasPieces, pieces_in};
 ghost use Rattle.lane_files.specs.Work.{IsWork, all_tickets, is_last, words_of};
 
 use crate::file::FileText;

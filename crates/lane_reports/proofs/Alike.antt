@@ -6,7 +6,7 @@ use Rattle.std.proofs.lemmas.List.{map-append}
 use Rattle.std.proofs.lemmas.List.Elements.{filter-append}
 use Rattle.law_lesson.specs.plain_state.declared.slot.SlotId.{SlotId}
 use Rattle.law_lesson.specs.plain_state.Lists.{times}
-use Rattle.domain_audit.proofs.Below.core_law.Kit.{one_same, times_append, times_cons}
+use Rattle.domain_audit.proofs.Below.core_law_Kit.{one_same, times_append, times_cons}
 use Rattle.domain_audit.specs.counted_handles.Handles.{Handle}
 use Rattle.domain_audit.specs.acquire_retire.Seats.{SeatState}
 use Rattle.words_rest.specs.directory_law.declared.view.View.{View as DirectoryView}

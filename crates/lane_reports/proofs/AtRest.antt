@@ -19,15 +19,15 @@ use Rattle.domain_audit.specs.core_events.Shows.{show_seat, shows}
 use Rattle.domain_audit.specs.core_events.Views.{no_view, snapshots}
 use Rattle.domain_audit.specs.core_events.Shows.{filled}
 use Rattle.domain_audit.specs.core_events.declared.view.Phase.TheVariants as phase
-use Rattle.domain_audit.proofs.Below.core_law.Kit.{one_same, times_cons}
-use Rattle.domain_audit.proofs.Below.core_law.Parts.{sound_good}
-use Rattle.domain_audit.proofs.Below.core_law.Bridge.{shown_past, shown_seat, shown_stage, shown_strong}
+use Rattle.domain_audit.proofs.Below.core_law_Kit.{one_same, times_cons}
+use Rattle.domain_audit.proofs.Below.core_law_Parts.{sound_good}
+use Rattle.domain_audit.proofs.Below.core_law_Bridge.{shown_past, shown_seat, shown_stage, shown_strong}
 use Rattle.domain_audit.specs.acquire_retire.Domains.{DomainState}
 use Rattle.domain_audit.specs.acquire_retire.Seats.{SeatState}
 use Rattle.domain_audit.specs.acquire_retire.Wholes.{known_core}
 use Rattle.domain_audit.specs.control_word.Resting.{IsAtRest}
 use Rattle.domain_audit.specs.Audits.{KnowsLone}
-use Rattle.domain_audit.proofs.Below.slot_store.Cycles.{live_counted}
+use Rattle.domain_audit.proofs.Below.slot_store_Cycles.{live_counted}
 use Rattle.words_rest.specs.words_law.Views.{View}
 use Rattle.lane_domain.specs.words_protocol.declared.law.WordsLaw.{WordsLaw}
 use Rattle.words_rest.specs.Rest.{IsQuiet, Rests}

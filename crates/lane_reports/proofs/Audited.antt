@@ -12,7 +12,7 @@ use Rattle.domain_audit.specs.core_events.declared.view.CoreView.{CoreView}
 use Rattle.domain_audit.specs.core_events.Shows.{shows}
 use Rattle.domain_audit.specs.core_events.Views.{snapshots}
 use Rattle.domain_audit.specs.core_events.Words.{cell_at, slot_in}
-use Rattle.domain_audit.proofs.Below.core_law.Each.{length_each}
+use Rattle.domain_audit.proofs.Below.core_law_Each.{length_each}
 use Rattle.domain_audit.specs.acquire_retire.Collecting.{rest_of}
 use Rattle.domain_audit.specs.acquire_retire.Domains.{DomainState}
 use Rattle.domain_audit.specs.acquire_retire.Seats.{SeatState}
@@ -24,7 +24,7 @@ use Rattle.domain_audit.proofs.Learning.{knows_shown}
 use Rattle.domain_audit.specs.domain_rule.Views.{own_of}
 use Rattle.words_rest.specs.heap_audit.declared.finding.Audit.{Audit}
 use Rattle.words_rest.specs.plain_audit.Audits.{IsAudit}
-use Rattle.domain_audit.proofs.Below.protected_loads.Telling.{holds_has}
+use Rattle.domain_audit.proofs.Below.protected_loads_Telling.{holds_has}
 use Rattle.domain_audit.specs.slot_store.Reaping.{KnowsBoth}
 use Rattle.words_rest.specs.words_law.Views.{View}
 use Rattle.lane_domain.specs.words_protocol.declared.law.WordsLaw.{WordsLaw}

@@ -6,8 +6,8 @@ use Rattle.domain_audit.specs.core_events.declared.view.CoreView.{CoreView}
 use Rattle.domain_audit.specs.core_events.declared.view.Note.{Note}
 use Rattle.domain_audit.specs.core_events.declared.view.Note.TheVariants as note
 use Rattle.domain_audit.specs.core_events.Views.{no_notes, room_of}
-use Rattle.domain_audit.proofs.Below.core_law.Each.{get_each, length_each}
-use Rattle.domain_audit.proofs.Below.core_law.Kit.{times_none}
+use Rattle.domain_audit.proofs.Below.core_law_Each.{get_each, length_each}
+use Rattle.domain_audit.proofs.Below.core_law_Kit.{times_none}
 use Rattle.domain_audit.specs.acquire_retire.Domains.{DomainState}
 use Rattle.domain_audit.specs.acquire_retire.Seats.{SeatState}
 use Rattle.domain_audit.specs.control_word.Resting.{IsUnderNone}

@@ -1,2 +1,2 @@
 -- What callers cite of the proofs below.
-pub use Rattle.lane_domain.proofs.Below.lane_gate as lane_gate
+pub use Rattle.lane_domain.proofs.Below.lane_gate_Known as lane_gate_Known

@@ -16,7 +16,7 @@ use Rattle.words_rest.specs.queue_law.declared.view.View.{View as QueueView}
 use Rattle.words_rest.specs.queue_law.Lists.{taken_items}
 use Rattle.words_rest.specs.words_law.Known.{ForgetsNothing, KnowsMore, KnowsTexts}
 use Rattle.words_rest.specs.words_law.Views.{View}
-use Rattle.words_rest.proofs.Below.words_law.Known.{knows_all_more, knows_both}
+use Rattle.words_rest.proofs.Below.words_law_Known.{knows_all_more, knows_both}
 use Rattle.ticket_shares.specs.Tickets.{together}
 use Rattle.lane_domain.specs.lane_files.Passed.{KnowsWords, by_seat}
 use Rattle.lane_domain.specs.lane_files.declared.work.Work.{Work}

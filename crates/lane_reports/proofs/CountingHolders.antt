@@ -14,24 +14,24 @@ use Rattle.domain_audit.specs.core_events.Runs.{Core, after, view_at}
 use Rattle.domain_audit.specs.core_events.Shows.{show_seat, shows}
 use Rattle.domain_audit.specs.core_events.Steps.{HasRoom}
 use Rattle.domain_audit.specs.core_law.Sound.{Sound}
-use Rattle.domain_audit.proofs.Below.core_law.Bridge.{shown_seat}
-use Rattle.domain_audit.proofs.Below.core_law.Events.{event_shows}
+use Rattle.domain_audit.proofs.Below.core_law_Bridge.{shown_seat}
+use Rattle.domain_audit.proofs.Below.core_law_Events.{event_shows}
 use Rattle.domain_audit.specs.acquire_retire.Calls.{Steps, same_view}
 use Rattle.domain_audit.specs.acquire_retire.Domains.{DomainState}
 use Rattle.domain_audit.specs.acquire_retire.Seats.{SeatState}
 use Rattle.domain_audit.specs.acquire_retire.Wholes.{KnowsState, core_known, known_core}
-use Rattle.domain_audit.proofs.Below.acquire_retire.Wholes.{knows_state}
+use Rattle.domain_audit.proofs.Below.acquire_retire_Wholes.{knows_state}
 use Rattle.domain_audit.specs.control_word.Calls.{CountsStrong, counted_by}
 use Rattle.domain_audit.specs.control_word.Moves.{Becomes, KnowsStill, last_core}
 use Rattle.domain_audit.specs.control_word.Resting.{IsAtRest}
-use Rattle.domain_audit.proofs.Below.control_word.Finding.{sound_before, strong_some, strong_word}
+use Rattle.domain_audit.proofs.Below.control_word_Finding.{sound_before, strong_some, strong_word}
 use Rattle.lane_domain.specs.directory_calls.Directories.{HasQuota}
 use Rattle.lane_domain.specs.directory_calls.Steps.{Leaves}
-use Rattle.lane_domain.proofs.Below.directory_calls.Going.{leaves_core}
+use Rattle.lane_domain.proofs.Below.directory_calls_Going.{leaves_core}
 use Rattle.law_lesson.specs.Lessons.{HoldsOf}
 use Rattle.domain_audit.proofs.Learning.{knows_shown}
 use Rattle.domain_audit.specs.domain_rule.Views.{own_of}
-use Rattle.domain_audit.proofs.Below.slot_store.Objects.{known_after, known_before, known_still, some_value, sound_later}
+use Rattle.domain_audit.proofs.Below.slot_store_Objects.{known_after, known_before, known_still, some_value, sound_later}
 use Rattle.lane_domain.specs.text_reading.Reading.{HasTwoFree}
 use Rattle.lane_domain.specs.lane_files.declared.shared.Shared.{Shared}
 use Rattle.words_rest.specs.words_law.Views.{View, gone}

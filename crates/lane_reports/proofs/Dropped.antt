@@ -5,14 +5,14 @@ use Rattle.law_lesson.specs.plain_state.declared.slot.SlotId.{SlotId}
 use Rattle.law_lesson.specs.plain_state.Lists.{times}
 use Rattle.domain_audit.specs.core_events.declared.view.CoreView.{CoreView}
 use Rattle.domain_audit.specs.core_events.Views.{without}
-use Rattle.domain_audit.proofs.Below.core_law.Kit.{one_same, times_append, times_cons, times_none}
+use Rattle.domain_audit.proofs.Below.core_law_Kit.{one_same, times_append, times_cons, times_none}
 use Rattle.domain_audit.specs.counted_handles.Handles.{Handle}
 use Rattle.domain_audit.specs.acquire_retire.Seats.{SeatState}
 use Rattle.domain_audit.specs.domain_rule.Views.{IsAlone}
 use Rattle.words_rest.specs.words_law.Views.{View}
 use Rattle.lane_domain.specs.lane_files.Ready.{Owns}
 use Rattle.lane_domain.specs.lane_files.Keeping.{GivesUp, slots_of}
-use Rattle.lane_domain.proofs.Below.lane_files.Giving.{gives_next}
+use Rattle.lane_domain.proofs.Below.lane_files_Giving.{gives_next}
 
 times_both : (x : SlotId) (xs ys : List Handle)
     → times x (slots_of (xs ++ ys)) ≡ times x (slots_of xs) + times x (slots_of ys)

@@ -5,24 +5,24 @@ use Rattle.law_lesson.specs.plain_state.declared.slot.SlotId.{SlotId}
 use Rattle.law_lesson.specs.plain_state.Lists.{times}
 use Rattle.domain_audit.specs.core_events.declared.view.Move.{Move}
 use Rattle.domain_audit.specs.core_events.Views.{without}
-use Rattle.domain_audit.proofs.Below.core_law.Kit.{one_same, times_push, times_without}
+use Rattle.domain_audit.proofs.Below.core_law_Kit.{one_same, times_push, times_without}
 use Rattle.domain_audit.specs.acquire_retire.Collecting.{ends}
 use Rattle.domain_audit.specs.acquire_retire.Domains.{DomainState}
 use Rattle.domain_audit.specs.acquire_retire.Seats.{SeatState}
 use Rattle.domain_audit.specs.control_word.Calls.{DropsStrong, with_ended, without_strong}
 use Rattle.domain_audit.specs.control_word.Moves.{KnowsStill}
-use Rattle.domain_audit.proofs.Below.protected_loads.Telling.{holds_has}
+use Rattle.domain_audit.proofs.Below.protected_loads_Telling.{holds_has}
 use Rattle.lane_domain.specs.atomic_weak.Places.{named}
 use Rattle.domain_audit.specs.counted_handles.Handles.{Handle}
 use Rattle.lane_domain.specs.directory_calls.Directories.{HasQuota}
 use Rattle.lane_domain.specs.directory_calls.Learning.{LearnsIn}
 use Rattle.lane_domain.specs.directory_calls.Steps.{Leaves, with_found}
-use Rattle.lane_domain.proofs.Below.directory_calls.Going.{holds_by, leaves_as, leaves_less, leaves_then}
-use Rattle.lane_domain.proofs.Below.directory_calls.Learnt.{learns_then}
+use Rattle.lane_domain.proofs.Below.directory_calls_Going.{holds_by, leaves_as, leaves_less, leaves_then}
+use Rattle.lane_domain.proofs.Below.directory_calls_Learnt.{learns_then}
 use Rattle.lane_domain.specs.weak_intern.Knowing.{KnowsRecord}
 use Rattle.words_rest.specs.words_law.Views.{View}
 use Rattle.lane_domain.specs.words_protocol.declared.law.WordsLaw.{WordsLaw}
-use Rattle.lane_domain.proofs.Below.lane_files.Copied.{knows_on}
+use Rattle.lane_domain.proofs.Below.lane_files_Copied.{knows_on}
 use Rattle.lane_reports.specs.Holders.{texts, with_texts}
 
 gives : (e : Bool) (s : SlotId) (ms : List Move) (a b : SeatState View)

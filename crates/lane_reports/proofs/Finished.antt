@@ -17,7 +17,7 @@ use Rattle.domain_audit.specs.acquire_retire.Domains.{DomainState}
 use Rattle.domain_audit.specs.acquire_retire.Seats.{SeatState}
 use Rattle.domain_audit.specs.acquire_retire.Wholes.{known_core}
 use Rattle.domain_audit.specs.control_word.Resting.{IsAtRest}
-use Rattle.domain_audit.proofs.Below.protected_loads.Telling.{holds_has}
+use Rattle.domain_audit.proofs.Below.protected_loads_Telling.{holds_has}
 use Rattle.words_rest.specs.directory_law.declared.view.View.{View as DirectoryView}
 use Rattle.words_rest.specs.directory_law.Bytes.{AreBytes, text_bytes}
 use Rattle.words_rest.specs.directory_law.Payloads.{Text}

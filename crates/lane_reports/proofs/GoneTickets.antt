@@ -19,10 +19,10 @@ use Rattle.domain_audit.specs.core_events.Runs.{AreTerms, Core, Enabled, History
 use Rattle.domain_audit.specs.core_events.Steps.{May, moved, noted}
 use Rattle.domain_audit.specs.core_events.Views.{Terms, first_views, no_view}
 use Rattle.domain_audit.specs.core_law.Sound.{Sound}
-use Rattle.domain_audit.proofs.Below.core_law.Always.{history_sound, is_leave}
-use Rattle.domain_audit.proofs.Below.core_law.Trails.{changed_trail, views_plain}
-use Rattle.domain_audit.proofs.Below.core_law.Bridge.{total_zero}
-use Rattle.domain_audit.proofs.Below.claim_law.Going.{drawn, grows}
+use Rattle.domain_audit.proofs.Below.core_law_Always.{history_sound, is_leave}
+use Rattle.domain_audit.proofs.Below.core_law_Trails.{changed_trail, views_plain}
+use Rattle.domain_audit.proofs.Below.core_law_Bridge.{total_zero}
+use Rattle.domain_audit.proofs.Below.claim_law_Going.{drawn, grows}
 use Rattle.domain_audit.specs.domain_rule.Rule.{OthersLeft}
 use Rattle.ticket_shares.specs.Tickets.{DrewOnce, together}
 use Rattle.ticket_shares.specs.Tickets as shares

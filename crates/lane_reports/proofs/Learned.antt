@@ -14,7 +14,7 @@ use Rattle.domain_audit.specs.core_events.Shows.{shows}
 use Rattle.domain_audit.specs.core_events.Words.{slot_in}
 use Rattle.domain_audit.specs.core_events.declared.outcome.Outcome.TheVariants as outcome
 use Rattle.domain_audit.specs.core_law.Sound.{Sound}
-use Rattle.domain_audit.proofs.Below.core_law.Events.{event_shows}
+use Rattle.domain_audit.proofs.Below.core_law_Events.{event_shows}
 use Rattle.domain_audit.proofs.Learning.{knows_shown}
 use Rattle.domain_audit.specs.domain_rule.Rule.{OthersLeft}
 use Rattle.domain_audit.specs.domain_rule.Views.{IsAlone, own_of}
@@ -25,12 +25,12 @@ use Rattle.domain_audit.specs.acquire_retire.Seats.{SeatState}
 use Rattle.domain_audit.specs.acquire_retire.Wholes.{known_core}
 use Rattle.domain_audit.specs.control_word.Moves.{Becomes}
 use Rattle.domain_audit.specs.control_word.Resting.{IsAtRest}
-use Rattle.domain_audit.proofs.Below.control_word.Becoming.{knows_after, one_step, rest_after}
-use Rattle.domain_audit.proofs.Below.control_word.Finding.{sound_before}
-use Rattle.domain_audit.proofs.Below.protected_loads.Telling.{content_found}
-use Rattle.domain_audit.proofs.Below.acquire_retire.Contents.{look_on}
+use Rattle.domain_audit.proofs.Below.control_word_Becoming.{knows_after, one_step, rest_after}
+use Rattle.domain_audit.proofs.Below.control_word_Finding.{sound_before}
+use Rattle.domain_audit.proofs.Below.protected_loads_Telling.{content_found}
+use Rattle.domain_audit.proofs.Below.acquire_retire_Contents.{look_on}
 use Rattle.law_lesson.specs.Lessons.{HoldsOf}
-use Rattle.domain_audit.proofs.Below.slot_store.Objects.{known_after, known_before, known_still, some_value, sound_later}
+use Rattle.domain_audit.proofs.Below.slot_store_Objects.{known_after, known_before, known_still, some_value, sound_later}
 use Rattle.words_rest.specs.words_law.Views.{View, gone}
 use Rattle.lane_domain.specs.words_protocol.declared.law.WordsLaw.{WordsLaw}
 use Rattle.lane_reports.specs.Holders.{law_of}

@@ -15,8 +15,8 @@ use Rattle.domain_audit.specs.core_events.declared.view.Note.TheVariants as note
 use Rattle.domain_audit.specs.core_events.Runs.{taken_over}
 use Rattle.domain_audit.specs.core_events.Steps.{HasRoom, IsIdle, noted}
 use Rattle.domain_audit.specs.core_events.Views.{note_of, room_of}
-use Rattle.domain_audit.proofs.Below.core_law.Kit.{times_append}
-use Rattle.domain_audit.proofs.Below.protected_loads.Telling.{holds_has}
+use Rattle.domain_audit.proofs.Below.core_law_Kit.{times_append}
+use Rattle.domain_audit.proofs.Below.protected_loads_Telling.{holds_has}
 use Rattle.domain_audit.specs.counted_handles.Handles.{Handle}
 use Rattle.domain_audit.specs.acquire_retire.Domains.{DomainState}
 use Rattle.domain_audit.specs.acquire_retire.Leavings.{TookOver}
@@ -25,7 +25,7 @@ use Rattle.domain_audit.specs.control_word.Resting.{IsAtRest, IsSettled, IsUnder
 use Rattle.lane_domain.specs.directory_calls.Directories.{HasQuota}
 use Rattle.words_rest.specs.directory_law.declared.view.View.{View as DirectoryView}
 use Rattle.words_rest.specs.directory_law.Bytes.{text_bytes}
-use Rattle.words_rest.proofs.Below.directory_law.Notes.{in_left, in_right}
+use Rattle.words_rest.proofs.Below.directory_law_Notes.{in_left, in_right}
 use Rattle.domain_audit.specs.domain_rule.declared.view.SeatView.{SeatView}
 use Rattle.lane_domain.specs.linked_queue.Queues.{IsAttached}
 use Rattle.words_rest.specs.queue_law.declared.view.Item.{Item}
@@ -37,12 +37,12 @@ use Rattle.ticket_shares.specs.Tickets.{AreLanes, together}
 use Rattle.words_rest.specs.words_law.Known.{ForgetsNothing, KnowsMore}
 use Rattle.words_rest.specs.words_law.Owned.{join_directories, joined}
 use Rattle.words_rest.specs.words_law.Views.{View}
-use Rattle.words_rest.proofs.Below.words_law.Known.{joined_knows}
+use Rattle.words_rest.proofs.Below.words_law_Known.{joined_knows}
 use Rattle.lane_domain.specs.words_protocol.declared.law.WordsLaw.{WordsLaw}
 use Rattle.lane_domain.specs.lane_files.Passed.{KnowsWords, by_seat}
 use Rattle.lane_domain.specs.lane_files.declared.shared.Shared.{Shared}
 use Rattle.lane_domain.specs.lane_files.Ready.{IsReady}
-use Rattle.lane_domain.proofs.Below.lane_files.PiecesCounted.{more_then}
+use Rattle.lane_domain.proofs.Below.lane_files_PiecesCounted.{more_then}
 use Rattle.lane_domain.specs.lane_files.declared.lane.Lane.{Lane}
 use Rattle.lane_domain.specs.lane_files.declared.work.Work.{Work}
 use Rattle.lane_domain.specs.lane_files.Keeping.{slots_of}

@@ -15,7 +15,7 @@ use Rattle.words_rest.specs.queue_law.declared.view.Item.{Item}
 use Rattle.words_rest.specs.queue_law.declared.view.View.{View as QueueView}
 use Rattle.words_rest.specs.queue_law.Chain.{Ends}
 use Rattle.words_rest.specs.queue_law.Lists.{item_times, same_item, taken_items}
-use Rattle.words_rest.proofs.Below.queue_law.Shut.{left_over}
+use Rattle.words_rest.proofs.Below.queue_law_Shut.{left_over}
 use Rattle.words_rest.specs.directory_law.declared.view.View.{View as DirectoryView}
 use Rattle.words_rest.specs.directory_law.Bytes.{text_bytes}
 use Rattle.words_rest.specs.directory_law.Cells.{Area}
@@ -26,14 +26,14 @@ use Rattle.tally_sums.specs.cdrc_text.Tally.{count_of, total_of}
 use Rattle.words_rest.specs.words_law.Known.{KnowsTexts}
 use Rattle.words_rest.specs.words_law.Law.{WordsLaw}
 use Rattle.words_rest.specs.words_law.Views.{View, gone, queues}
-use Rattle.words_rest.proofs.Below.words_law.Counts.{popped_is, pushed_is, same_counts}
-use Rattle.words_rest.proofs.Below.words_law.Parts.{queue_at}
-use Rattle.words_rest.proofs.Below.words_law.Root.{root_has, told_agree}
+use Rattle.words_rest.proofs.Below.words_law_Counts.{popped_is, pushed_is, same_counts}
+use Rattle.words_rest.proofs.Below.words_law_Parts.{queue_at}
+use Rattle.words_rest.proofs.Below.words_law_Root.{root_has, told_agree}
 use Rattle.ticket_shares.specs.Tickets.{IsEachOnce, file_of}
 use Rattle.ticket_shares.proofs.Rounds.{round_sums}
 use Rattle.lane_domain.specs.lane_files.declared.file.FileText.{FileText}
 use Rattle.lane_domain.specs.lane_files.declared.work.Work.{Work}
-use Rattle.lane_domain.specs.lane_files.Files.{HasPieces, IsLongPlace, pieces_in}
+use Rattle.lane_domain.specs.lane_files.FilePieces.{HasPieces, IsLongPlace, pieces_in}
 use Rattle.lane_domain.specs.lane_files.Work.{IsWork, all_tickets, words_of, words_of_all}
 use Rattle.lane_domain.specs.Sizes.{all_pieces, texts_in}
 use Rattle.lane_reports.specs.Deeds.{LaneDeeds}

@@ -6,11 +6,11 @@ use Rattle.law_lesson.specs.plain_state.declared.slot.SlotId.{SlotId}
 use Rattle.law_lesson.specs.plain_state.Lists.{Entry, entry_times, times}
 use Rattle.domain_audit.specs.core_events.declared.view.CoreView.{CoreView}
 use Rattle.domain_audit.specs.core_events.Views.{snapshots}
-use Rattle.domain_audit.proofs.Below.core_law.Kit.{entry_cons, entry_none, entry_one, kind_one, one_same}
+use Rattle.domain_audit.proofs.Below.core_law_Kit.{entry_cons, entry_none, entry_one, kind_one, one_same}
 use Rattle.domain_audit.specs.acquire_retire.Collecting.{rest_of}
 use Rattle.domain_audit.specs.acquire_retire.Seats.{SeatState}
 use Rattle.domain_audit.specs.slot_store.Leftovers.{IsQuiet}
-use Rattle.domain_audit.proofs.Below.slot_store.Turning.{nothing_in}
+use Rattle.domain_audit.proofs.Below.slot_store_Turning.{nothing_in}
 use Rattle.lane_domain.specs.lane_files.Keeping.{GivesUp}
 use Rattle.words_rest.specs.words_law.Views.{View}
 

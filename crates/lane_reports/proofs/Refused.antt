@@ -13,7 +13,7 @@ use Rattle.words_rest.specs.queue_law.declared.view.View.{View as QueueView}
 use Rattle.words_rest.specs.words_law.Views.{View}
 use Rattle.law_lesson.specs.plain_state.Lists.{times}
 use Rattle.domain_audit.specs.core_events.declared.view.CoreView.{CoreView}
-use Rattle.domain_audit.proofs.Below.core_law.Kit.{times_none}
+use Rattle.domain_audit.proofs.Below.core_law_Kit.{times_none}
 use Rattle.lane_domain.specs.lane_files.Owning.{OwnsNoNode}
 use Rattle.lane_domain.specs.lane_files.Scans.{HasScanned}
 use Rattle.lane_domain.specs.words_protocol.declared.law.WordsLaw.{WordsLaw}
@@ -31,9 +31,9 @@ use Rattle.lane_domain.specs.lane_files.declared.work.Work.{Work}
 use Rattle.lane_domain.specs.lane_files.Lanes.{IsWhyStopped, StopsLane}
 use Rattle.lane_domain.specs.lane_files.PieceMakes.{cause_in}
 use Rattle.lane_domain.specs.lane_files.Makes.{HasItsMakes, cause_of}
-use Rattle.lane_domain.proofs.Below.lane_files.Owning.{owns_no_node}
-use Rattle.lane_domain.proofs.Below.lane_files.Pushed.{full_scanned}
-use Rattle.domain_audit.proofs.Below.core_law.Each.{get_each, length_each}
+use Rattle.lane_domain.proofs.Below.lane_files_Owning.{owns_no_node}
+use Rattle.lane_domain.proofs.Below.lane_files_Pushed.{full_scanned}
+use Rattle.domain_audit.proofs.Below.core_law_Each.{get_each, length_each}
 use Rattle.lane_domain.specs.Opened.{FindsNoSlot, IsDomainFor, fresh_lanes, fresh_seat}
 use Rattle.lane_domain.proofs.Enough.{attached_makes, makes_left, slots_lacked}
 use Rattle.lane_domain.specs.declared.ending.LaneEnd.{LaneEnd}

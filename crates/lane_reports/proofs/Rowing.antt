@@ -6,7 +6,7 @@ use Rattle.std.specs.Map.{keys_of}
 use Rattle.std.proofs.lemmas.List.{map-append}
 use Rattle.std.proofs.lemmas.List.Elements.{All-push, Contains-append_right}
 use Rattle.tally_sums.specs.cdrc_text.Tally.{shown_entries}
-use Rattle.tally_sums.proofs.Below.cdrc_text.Unique.{Contains-first}
+use Rattle.tally_sums.proofs.Below.cdrc_text_Unique.{Contains-first}
 use Rattle.law_lesson.specs.plain_state.declared.slot.SlotId.{SlotId}
 use Rattle.law_lesson.specs.plain_state.Lists.{times}
 use Rattle.law_lesson.specs.plain_protocol.Owns.{Object}
@@ -16,7 +16,7 @@ use Rattle.lane_domain.specs.directory_calls.Learning.{LearnsIn}
 use Rattle.lane_domain.specs.directory_calls.Steps.{Leaves}
 use Rattle.lane_domain.specs.lane_files.Keeping.{slots_of}
 use Rattle.words_rest.specs.words_law.Views.{View}
-use Rattle.words_rest.proofs.Below.words_law.Known.{knows_more}
+use Rattle.words_rest.proofs.Below.words_law_Known.{knows_more}
 use Rattle.words_rest.specs.Kept.{TellsWord}
 use Rattle.lane_reports.specs.declared.records.WordRecord.{WordRecord}
 use Rattle.lane_reports.specs.Holders.{AreSlotsOf, OwnsEach, texts, with_texts}

@@ -9,7 +9,7 @@ use Rattle.domain_audit.specs.core_events.declared.view.CoreView.{CoreView}
 use Rattle.domain_audit.specs.core_events.declared.view.Note.{Note}
 use Rattle.domain_audit.specs.core_events.declared.view.Note.TheVariants as note
 use Rattle.domain_audit.specs.core_events.Views.{note_of, snapshots, valid_of}
-use Rattle.domain_audit.proofs.Below.core_law.Kit.{entry_cons, entry_none, entry_one, kind_one, one_same}
+use Rattle.domain_audit.proofs.Below.core_law_Kit.{entry_cons, entry_none, entry_one, kind_one, one_same}
 use Rattle.domain_audit.specs.domain_rule.Views.{IsAlone}
 use Rattle.domain_audit.specs.acquire_retire.Collecting.{rest_of}
 use Rattle.domain_audit.specs.acquire_retire.Domains.{DomainState}
@@ -21,14 +21,14 @@ use Rattle.lane_domain.specs.linked_queue.Shuts.{shut_in}
 use Rattle.domain_audit.specs.slot_store.Leftovers.{IsQuiet, LeavesCycles}
 use Rattle.domain_audit.specs.slot_store.Reaping.{KnowsBoth}
 use Rattle.domain_audit.specs.slot_store.Settling.{Settles, Turns}
-use Rattle.domain_audit.proofs.Below.slot_store.Turning.{nothing_in}
+use Rattle.domain_audit.proofs.Below.slot_store_Turning.{nothing_in}
 use Rattle.words_rest.specs.words_law.Views.{View}
 use Rattle.lane_domain.specs.words_protocol.declared.law.WordsLaw.{WordsLaw}
 use Rattle.lane_domain.specs.lane_files.Whys.{of_queue, queue_of}
-use Rattle.lane_domain.proofs.Below.lane_files.SeatsKept.{owns_on, owns_queue}
-use Rattle.lane_domain.proofs.Below.lane_files.Tidied.{owns_rest}
+use Rattle.lane_domain.proofs.Below.lane_files_SeatsKept.{owns_on, owns_queue}
+use Rattle.lane_domain.proofs.Below.lane_files_Tidied.{owns_rest}
 use Rattle.lane_domain.specs.lane_files.Scans.{scans_of}
-use Rattle.lane_domain.proofs.Below.lane_files.Scanned.{collect_scans, reap_scans}
+use Rattle.lane_domain.proofs.Below.lane_files_Scanned.{collect_scans, reap_scans}
 use Rattle.lane_reports.specs.Shutting.{ShutsAndSettles}
 
 -- NO SNAPSHOT, and so nothing that waits for one

@@ -7,7 +7,7 @@ use Rattle.std.proofs.Math.Seq.{take-suc}
 use Rattle.law_lesson.specs.plain_state.declared.slot.SlotId.{SlotId}
 use Rattle.law_lesson.specs.plain_state.Lists.{times}
 use Rattle.domain_audit.specs.core_events.Counts.{one}
-use Rattle.domain_audit.proofs.Below.core_law.Kit.{one_other, one_same, times_none, times_push}
+use Rattle.domain_audit.proofs.Below.core_law_Kit.{one_other, one_same, times_none, times_push}
 use Rattle.domain_audit.specs.counted_handles.Handles.{Handle}
 use Rattle.lane_domain.specs.lane_files.Keeping.{slots_of}
 use Rattle.lane_reports.specs.Holders.{AreSlotsOf}

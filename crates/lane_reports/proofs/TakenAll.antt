@@ -5,7 +5,7 @@ use Rattle.words_rest.specs.words_law.Views.{View}
 use Rattle.lane_domain.specs.lane_files.declared.refusal.LaneError.{LaneError}
 use Rattle.lane_domain.specs.lane_files.Passed.{Takes}
 use Rattle.lane_domain.specs.lane_files.Draining.{IsWhyNotDrained}
-use Rattle.lane_domain.proofs.Below.lane_files.PiecesCounted.{takes_more}
+use Rattle.lane_domain.proofs.Below.lane_files_PiecesCounted.{takes_more}
 
 pub why_after : (k most : ℕ) (error : LaneError) (a b c : SeatState View)
     (r s t : List (List ℕ × ℕ)) → Takes [] k a.view.client b.view.client r s → k < most

@@ -7,8 +7,8 @@ use Rattle.words_rest.specs.directory_law.Payloads.{Text}
 use Rattle.lane_domain.specs.weak_intern.Knowing.{Knows}
 use Rattle.words_rest.specs.words_law.Known.{KnowsMore, KnowsText}
 use Rattle.words_rest.specs.words_law.Views.{View}
-use Rattle.words_rest.proofs.Below.words_law.Known.{knows_more}
-use Rattle.lane_domain.proofs.Below.lane_files.Offered.{texts}
+use Rattle.words_rest.proofs.Below.words_law_Known.{knows_more}
+use Rattle.lane_domain.proofs.Below.lane_files_Offered.{texts}
 use Rattle.lane_domain.specs.lane_files.declared.work.Work.{Work}
 use Rattle.lane_domain.specs.lane_files.Counting.{KeepsRecords, KnowsEach}
 use Rattle.lane_domain.specs.lane_files.Keeping.{slots_of}

@@ -2,7 +2,7 @@
 use Rattle.std.proofs.Common.{◌≡◌, ℕ, List, [], ◌++◌, sym, ap, subst, ◌∙◌, arith}
 use Rattle.domain_audit.specs.core_events.declared.view.CoreView.{CoreView}
 use Rattle.domain_audit.specs.core_events.Views.{note_of, room_of}
-use Rattle.domain_audit.proofs.Below.core_law.Kit.{times_append, times_none}
+use Rattle.domain_audit.proofs.Below.core_law_Kit.{times_append, times_none}
 use Rattle.domain_audit.specs.counted_handles.Handles.{Handle}
 use Rattle.domain_audit.specs.acquire_retire.Domains.{DomainState}
 use Rattle.domain_audit.specs.acquire_retire.Seats.{SeatState}

@@ -9,7 +9,7 @@ use Rattle.law_lesson.specs.plain_state.Lists.{times}
 use Rattle.law_lesson.specs.plain_state.State.{Plain, PlainSeat, no_payload, seat_at}
 use Rattle.law_lesson.specs.plain_protocol.Owns.{Object}
 use Rattle.words_rest.specs.protocol_pairs.Shares.{FitsItsPart, weight_in_part}
-use Rattle.domain_audit.proofs.Below.core_law.Kit.{times_none}
+use Rattle.domain_audit.proofs.Below.core_law_Kit.{times_none}
 use Rattle.domain_audit.specs.acquire_retire.Domains.{DomainState}
 use Rattle.domain_audit.specs.acquire_retire.Seats.{SeatState}
 use Rattle.words_rest.specs.directory_law.declared.view.View.{View as DirectoryView}
@@ -21,7 +21,7 @@ use Rattle.tally_sums.specs.cdrc_text.declared.row.Totals.{Totals}
 use Rattle.tally_sums.specs.cdrc_text.Fold.{File, IsInByteOrder, holders_in, occurrences_in}
 use Rattle.tally_sums.specs.cdrc_text.Report.{report_of}
 use Rattle.tally_sums.specs.cdrc_text.Text.{IsReport, word_of}
-use Rattle.tally_sums.proofs.Below.cdrc_text.Listed.{held-occurs, occurs-held}
+use Rattle.tally_sums.proofs.Below.cdrc_text_Listed.{held-occurs, occurs-held}
 use Rattle.words_rest.specs.heap_audit.declared.finding.Audit.{Audit}
 use Rattle.words_rest.specs.words_law.Known.{KnowsMore}
 use Rattle.words_rest.specs.words_law.Views.{View, gone}
@@ -39,7 +39,7 @@ use Rattle.words_rest.proofs.Reported.{is_report}
 use Rattle.words_rest.proofs.Sums.{no_bytes, no_slots}
 use Rattle.lane_domain.specs.lane_files.declared.work.Work.{Work}
 use Rattle.lane_domain.specs.lane_files.Work.{IsWork, kept_files}
-use Rattle.lane_domain.specs.lane_files.Files.{pieces_in}
+use Rattle.lane_domain.specs.lane_files.FilePieces.{pieces_in}
 use Rattle.lane_domain.specs.Sizes.{all_pieces, texts_in}
 use Rattle.std.proofs.lemmas.List.{length-map}
 use Rattle.lane_reports.specs.declared.records.WordRecord.{WordRecord}

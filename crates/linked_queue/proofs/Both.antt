@@ -4,7 +4,7 @@ use Rattle.std.specs.Prelude.{Option, Some, None}
 use Rattle.queue_protocol.specs.plain_state.declared.slot.SlotId.{SlotId}
 use Rattle.queue_protocol.specs.plain_state.Lists.{times}
 use Rattle.slot_store.specs.core_events.Views.{Holds, without}
-use Rattle.slot_store.proofs.Below.core_law.Kit.{one_same, times_none, times_push, times_without}
+use Rattle.slot_store.proofs.Below.core_law_Kit.{one_same, times_none, times_push, times_without}
 use Rattle.slot_store.specs.acquire_retire.Seats.{SeatState}
 use Rattle.linked_queue.specs.Leaving.{Leaves, with_found}
 use Rattle.linked_queue.specs.Pops.{with_both}

@@ -13,7 +13,7 @@ use Rattle.part_calls.specs.atomic_shared.Places.{named}
 use Rattle.slot_store.specs.control_word.Resting.{IsAtRest}
 use Rattle.part_calls.specs.protected_loads.Loads.{Misses}
 use Rattle.part_calls.specs.protected_loads.References.{Loads}
-use Rattle.part_calls.proofs.Below.protected_loads.Learning.{client_found, client_moved, client_null}
+use Rattle.part_calls.proofs.Below.protected_loads_Learning.{client_found, client_moved, client_null}
 use Rattle.slot_store.specs.domain_rule.Views.{object_in}
 use Rattle.queue_protocol.specs.plain_state.declared.slot.SlotId.{SlotId}
 use Rattle.queue_protocol.specs.plain_state.Lists.{times}

@@ -14,7 +14,7 @@ use Rattle.slot_store.specs.acquire_retire.Seats.{SeatState}
 use Rattle.slot_store.specs.control_word.Moves.{KnowsStill}
 use Rattle.slot_store.specs.control_word.Resting.{IsAtRest}
 use Rattle.part_calls.specs.protected_loads.References.{Loads, Refers}
-use Rattle.part_calls.proofs.Below.protected_loads.Learning.{client_found, client_null}
+use Rattle.part_calls.proofs.Below.protected_loads_Learning.{client_found, client_null}
 use Rattle.queue_protocol.specs.queue_law.declared.view.View.{View}
 use Rattle.queue_protocol.specs.queue_law.Lessons.{NextTells, next_next}
 use Rattle.queue_protocol.specs.declared.law.QueueLaw.{QueueLaw}

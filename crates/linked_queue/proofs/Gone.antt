@@ -8,7 +8,7 @@ use Rattle.queue_protocol.specs.plain_state.Steps.{word_of}
 use Rattle.slot_store.specs.core_events.declared.act.Act.TheVariants as act
 use Rattle.slot_store.specs.core_events.declared.outcome.Outcome.TheVariants as outcome
 use Rattle.slot_store.specs.core_events.Shows.{show_slot, shows}
-use Rattle.slot_store.proofs.Below.core_law.Each.{length_each}
+use Rattle.slot_store.proofs.Below.core_law_Each.{length_each}
 use Rattle.slot_store.specs.acquire_retire.Calls.{IsReady, Steps, same_view}
 use Rattle.slot_store.specs.acquire_retire.Domains.{DomainState}
 use Rattle.slot_store.specs.acquire_retire.Seats.{SeatState}

@@ -19,7 +19,7 @@ use Rattle.slot_store.specs.acquire_retire.Seats.{SeatState}
 use Rattle.slot_store.specs.control_word.Calls.{DropsStrong, GainsStrong, with_ended, with_strong, without_strong}
 use Rattle.slot_store.specs.control_word.Moves.{KnowsStill}
 use Rattle.slot_store.specs.control_word.Resting.{IsSpent}
-use Rattle.part_calls.proofs.Below.protected_loads.Telling.{holds_has}
+use Rattle.part_calls.proofs.Below.protected_loads_Telling.{holds_has}
 use Rattle.slot_store.specs.retiring_stores.Exchanging.{Exchanges}
 use Rattle.linked_queue.specs.Leaving.{Leaves, aside}
 use Rattle.linked_queue.proofs.Owning.{holds_more}

@@ -13,7 +13,7 @@ use Rattle.slot_store.specs.core_events.declared.outcome.Outcome.TheVariants as 
 use Rattle.slot_store.specs.core_events.declared.shape.Shape.{Shape}
 use Rattle.slot_store.specs.core_events.declared.view.CoreView.{CoreView}
 use Rattle.slot_store.specs.core_events.Views.{without}
-use Rattle.slot_store.proofs.Below.core_law.Kit.{times_without}
+use Rattle.slot_store.proofs.Below.core_law_Kit.{times_without}
 use Rattle.slot_store.specs.counted_handles.declared.refusal.LoadError.{LoadError}
 use Rattle.slot_store.specs.counted_handles.declared.refusal.LoadError.TheVariants as unloaded
 use Rattle.slot_store.specs.domain_rule.Views.{object_in, own_of}

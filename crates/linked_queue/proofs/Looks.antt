@@ -13,15 +13,15 @@ use Rattle.slot_store.specs.core_events.declared.outcome.Outcome.{Outcome}
 use Rattle.slot_store.specs.core_events.declared.outcome.Outcome.TheVariants as outcome
 use Rattle.slot_store.specs.core_events.Shows.{shows}
 use Rattle.slot_store.specs.core_events.Words.{slot_in}
-use Rattle.slot_store.proofs.Below.core_law.ShownPlaces.{slot_word}
+use Rattle.slot_store.proofs.Below.core_law_ShownPlaces.{slot_word}
 use Rattle.slot_store.specs.acquire_retire.Calls.{Steps}
 use Rattle.slot_store.specs.acquire_retire.Collecting.{move}
 use Rattle.slot_store.specs.acquire_retire.Domains.{DomainState}
 use Rattle.slot_store.specs.acquire_retire.Seats.{SeatState}
-use Rattle.slot_store.proofs.Below.acquire_retire.Contents.{look_on}
+use Rattle.slot_store.proofs.Below.acquire_retire_Contents.{look_on}
 use Rattle.slot_store.specs.control_word.Moves.{Becomes, last_core}
-use Rattle.slot_store.proofs.Below.control_word.Becoming.{one_step}
-use Rattle.part_calls.proofs.Below.protected_loads.Telling.{content_found}
+use Rattle.slot_store.proofs.Below.control_word_Becoming.{one_step}
+use Rattle.part_calls.proofs.Below.protected_loads_Telling.{content_found}
 
 module _ {P V : Type 0} {fits : List ℕ → Type 0} (d : DomainState P)
     {next : OwnPart → OwnPart → V → PlainAct → ℕ → V}

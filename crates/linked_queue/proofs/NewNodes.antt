@@ -14,7 +14,7 @@ use Rattle.slot_store.specs.core_events.ShownSteps.{on_slot}
 use Rattle.slot_store.specs.core_events.Views.{slot_of}
 use Rattle.slot_store.specs.domain_rule.Told.{changed_object}
 use Rattle.slot_store.specs.domain_rule.Views.{object_in, own_of}
-use Rattle.slot_store.proofs.Below.domain_rule.Others.{fills_has}
+use Rattle.slot_store.proofs.Below.domain_rule_Others.{fills_has}
 use Rattle.slot_store.specs.acquire_retire.Domains.{DomainState}
 use Rattle.slot_store.specs.acquire_retire.Seats.{SeatState}
 use Rattle.slot_store.specs.Calls.{Begins, Makes}

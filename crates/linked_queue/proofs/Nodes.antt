@@ -24,9 +24,9 @@ use Rattle.slot_store.specs.control_word.Moves.{KnowsStill}
 use Rattle.slot_store.specs.control_word.Resting.{IsAtRest}
 use Rattle.part_calls.specs.protected_loads.Loads.{FindsNull}
 use Rattle.part_calls.specs.protected_loads.References.{IsReadyToLoad, Refers}
-use Rattle.part_calls.proofs.Below.protected_loads.Learning.{checked, client_found, client_null, has_found, known_found, slot_there, client_checked}
-use Rattle.part_calls.proofs.Below.protected_loads.Noting.{snapshot_gains, some_more}
-use Rattle.part_calls.proofs.Below.protected_loads.Telling.{four_notes}
+use Rattle.part_calls.proofs.Below.protected_loads_Learning.{checked, client_found, client_null, has_found, known_found, slot_there, client_checked}
+use Rattle.part_calls.proofs.Below.protected_loads_Noting.{snapshot_gains, some_more}
+use Rattle.part_calls.proofs.Below.protected_loads_Telling.{four_notes}
 use Rattle.queue_protocol.specs.queue_law.declared.view.View.{View}
 use Rattle.queue_protocol.specs.queue_law.declared.view.Eyes.{Eyes}
 use Rattle.queue_protocol.specs.queue_law.Lessons.{ItemReady, NextTells, TellsNothing, learn_next, learnt, next_next}

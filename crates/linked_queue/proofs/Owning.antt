@@ -9,10 +9,10 @@ use Rattle.queue_protocol.specs.plain_protocol.Owns.{HasSlot}
 use Rattle.slot_store.specs.core_events.declared.view.CoreView.{CoreView}
 use Rattle.slot_store.specs.core_events.Shows.{show_seat}
 use Rattle.slot_store.specs.core_events.Views.{Holds, held_times, without}
-use Rattle.slot_store.proofs.Below.core_law.Kit.{one_same, times_none, times_push, times_without}
+use Rattle.slot_store.proofs.Below.core_law_Kit.{one_same, times_none, times_push, times_without}
 use Rattle.slot_store.specs.domain_rule.Views.{object_in, own_of}
 use Rattle.slot_store.specs.acquire_retire.Seats.{SeatState}
-use Rattle.part_calls.proofs.Below.protected_loads.Telling.{holds_has}
+use Rattle.part_calls.proofs.Below.protected_loads_Telling.{holds_has}
 use Rattle.queue_protocol.specs.queue_law.Words.{life_in, life_of, payload_in, payload_of}
 use Rattle.linked_queue.specs.Leaving.{Leaves, aside, with_found}
 use Rattle.linked_queue.proofs.Trails.{trail_then}

@@ -4,7 +4,7 @@ use Rattle.queue_protocol.specs.plain_state.declared.slot.SlotId.{SlotId}
 use Rattle.queue_protocol.specs.plain_state.Lists.{times}
 use Rattle.queue_protocol.specs.plain_protocol.Owns.{Object}
 use Rattle.slot_store.specs.core_events.Views.{without}
-use Rattle.slot_store.proofs.Below.core_law.Kit.{one_other, one_same, slot_cases, times_push, times_without}
+use Rattle.slot_store.proofs.Below.core_law_Kit.{one_other, one_same, slot_cases, times_push, times_without}
 use Rattle.slot_store.specs.domain_rule.Views.{object_in}
 use Rattle.slot_store.specs.acquire_retire.Domains.{DomainState}
 use Rattle.slot_store.specs.acquire_retire.Seats.{SeatState}

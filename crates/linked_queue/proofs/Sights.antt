@@ -24,7 +24,7 @@ use Rattle.slot_store.specs.control_word.Moves.{KnowsStill}
 use Rattle.slot_store.specs.control_word.Resting.{IsAtRest, IsSpent}
 use Rattle.part_calls.specs.protected_loads.Loads.{Misses}
 use Rattle.part_calls.specs.protected_loads.References.{Loads, loaded_by, with_reference}
-use Rattle.part_calls.proofs.Below.protected_loads.Learning.{client_found, client_moved, client_null}
+use Rattle.part_calls.proofs.Below.protected_loads_Learning.{client_found, client_moved, client_null}
 use Rattle.queue_protocol.specs.queue_law.declared.view.View.{View}
 use Rattle.queue_protocol.specs.declared.law.QueueLaw.{QueueLaw}
 use Rattle.linked_queue.specs.Leaving.{Leaves, found_by, with_found}

@@ -18,7 +18,7 @@ use Rattle.slot_store.specs.acquire_retire.Domains.{DomainState}
 use Rattle.slot_store.specs.acquire_retire.Seats.{SeatState}
 use Rattle.slot_store.specs.control_word.Calls.{DropsStrong, GainsStrong, without_strong}
 use Rattle.slot_store.specs.control_word.Moves.{KnowsStill}
-use Rattle.slot_store.proofs.Below.control_word.Finding.{slot_there}
+use Rattle.slot_store.proofs.Below.control_word_Finding.{slot_there}
 use Rattle.slot_store.specs.retiring_stores.Exchanging.{LosesTo, Replaces}
 use Rattle.queue_protocol.specs.queue_law.declared.view.Item.{Item}
 use Rattle.queue_protocol.specs.queue_law.declared.view.View.{View}

@@ -12,7 +12,7 @@ use Rattle.slot_store.specs.core_events.declared.outcome.Outcome.{Outcome}
 use Rattle.slot_store.specs.core_events.declared.view.CoreView.{CoreView}
 use Rattle.slot_store.specs.core_events.declared.view.Move.{Move}
 use Rattle.slot_store.specs.core_events.Steps.{answer}
-use Rattle.slot_store.proofs.Below.core_law.Trails.{changed_trail}
+use Rattle.slot_store.proofs.Below.core_law_Trails.{changed_trail}
 use Rattle.slot_store.specs.acquire_retire.Calls.{IsSameView, Steps, same_view}
 use Rattle.slot_store.specs.acquire_retire.Collecting.{WalksBy, move}
 use Rattle.slot_store.specs.acquire_retire.Domains.{DomainState}

@@ -8,7 +8,7 @@ use Rattle.queue_protocol.specs.queue_law.Law.{WholeLaw}
 use Rattle.queue_protocol.specs.queue_law.Lessons.{CellTells, LearnReady, learn_next}
 use Rattle.queue_protocol.specs.queue_law.Views.{first_view}
 use Rattle.queue_protocol.specs.queue_law.Words.{cell_at}
-use Rattle.queue_protocol.proofs.Below.queue_law.Deeds as deeds
+use Rattle.queue_protocol.proofs.Below.queue_law_Deeds as deeds
 
 -- what the cell held is a node; and where the seat is attached, the cell wasn't null
 abbrev pub NodeTells : ℕ → Plain → Plain → ℕ → View → View → Type 0

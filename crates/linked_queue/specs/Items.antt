@@ -17,15 +17,15 @@ use Rattle.queue_protocol.specs.queue_law.Notes.{Sees}
 use Rattle.queue_protocol.specs.queue_law.Owned.{Keeps}
 use Rattle.queue_protocol.specs.queue_law.Views.{first_view}
 use Rattle.queue_protocol.specs.queue_law.Words.{cell_at, code, held_times, life_in, second_of, slot_at}
-use Rattle.queue_protocol.proofs.Below.queue_law.Calm.{calm_queue, quiet_on}
-use Rattle.queue_protocol.proofs.Below.queue_law.Chain.{the_head}
-use Rattle.queue_protocol.proofs.Below.queue_law.Effects.{calm_quiet}
-use Rattle.queue_protocol.proofs.Below.queue_law.Kit.{referred, refs_second}
-use Rattle.queue_protocol.proofs.Below.queue_law.Lessons as lessons
-use Rattle.queue_protocol.proofs.Below.queue_law.Lessons.{reads_calm, reads_found}
-use Rattle.queue_protocol.proofs.Below.queue_law.Notes.{sees_at_on, unchanged}
-use Rattle.queue_protocol.proofs.Below.queue_law.Seen.{reseen, seen_here}
-use Rattle.queue_protocol.proofs.Below.queue_law.Whole.{Tells, whole_deed, whole_told}
+use Rattle.queue_protocol.proofs.Below.queue_law_Calm.{calm_queue, quiet_on}
+use Rattle.queue_protocol.proofs.Below.queue_law_Chain.{the_head}
+use Rattle.queue_protocol.proofs.Below.queue_law_Effects.{calm_quiet}
+use Rattle.queue_protocol.proofs.Below.queue_law_Kit.{referred, refs_second}
+use Rattle.queue_protocol.proofs.Below.queue_law_Lessons as lessons
+use Rattle.queue_protocol.proofs.Below.queue_law_Lessons.{reads_calm, reads_found}
+use Rattle.queue_protocol.proofs.Below.queue_law_Notes.{sees_at_on, unchanged}
+use Rattle.queue_protocol.proofs.Below.queue_law_Seen.{reseen, seen_here}
+use Rattle.queue_protocol.proofs.Below.queue_law_Whole.{Tells, whole_deed, whole_told}
 
 -- the item's word; where there is none, the word of a slot that isn't there, if there are so many slots
 abbrev pub item_or_gone : ℕ → ℕ → ℕ

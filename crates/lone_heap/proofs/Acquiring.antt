@@ -8,7 +8,7 @@ use Rattle.protected_loads.specs.plain_state.declared.slot.Kind.{Kind}
 use Rattle.protected_loads.specs.plain_state.declared.slot.Kind.TheVariants.{Strong, Disposal}
 use Rattle.protected_loads.specs.plain_state.declared.slot.SlotId.{SlotId}
 use Rattle.protected_loads.specs.plain_state.Lists.{Entry, Gains, entry_times}
-use Rattle.protected_loads.proofs.Below.plain_state.Kit.{entry_in, entry_loses}
+use Rattle.protected_loads.proofs.Below.plain_state_Kit.{entry_in, entry_loses}
 use Rattle.protected_loads.specs.plain_state.Places.{content, place_kind}
 use Rattle.protected_loads.specs.plain_state.State.{Plain, PlainSeat, seat_at, with_seat}
 use Rattle.protected_loads.specs.plain_state.Steps.{Does, word_of}

@@ -6,7 +6,7 @@ use Rattle.domain_audit.specs.heap_audit.declared.finding.Audit.{Audit}
 use Rattle.domain_audit.specs.plain_audit.Audits.{IsAudit}
 use Rattle.protected_loads.specs.core_events.Shows.{show_slot}
 use Rattle.protected_loads.specs.core_events.Steps.{HasRoom}
-use Rattle.protected_loads.proofs.Below.core_law.Each.{length_each}
+use Rattle.protected_loads.proofs.Below.core_law_Each.{length_each}
 use Rattle.protected_loads.specs.domain_rule.Views.{own_of}
 use Rattle.protected_loads.specs.acquire_retire.Calls.{IsSameView, same_view}
 use Rattle.protected_loads.specs.acquire_retire.Domains.{DomainState}

@@ -1,2 +1,2 @@
 -- What callers cite of the proofs below.
-pub use Rattle.slot_store.proofs.Below.acquire_retire as acquire_retire
+pub use Rattle.slot_store.proofs.Below.acquire_retire_Wholes as acquire_retire_Wholes

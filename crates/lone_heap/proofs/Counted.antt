@@ -22,9 +22,9 @@ use Rattle.protected_loads.specs.core_events.Shows.{shows}
 use Rattle.protected_loads.specs.core_events.ShownSteps.{on_slot, shown_number}
 use Rattle.protected_loads.specs.core_events.Steps.{HasRoom}
 use Rattle.protected_loads.specs.core_events.Views.{Holds, slot_of}
-use Rattle.protected_loads.proofs.Below.core_law.Bridge.{shown_slot}
-use Rattle.protected_loads.proofs.Below.core_law.Held.{held_named}
-use Rattle.protected_loads.proofs.Below.core_law.Steady.{named_in_range}
+use Rattle.protected_loads.proofs.Below.core_law_Bridge.{shown_slot}
+use Rattle.protected_loads.proofs.Below.core_law_Held.{held_named}
+use Rattle.protected_loads.proofs.Below.core_law_Steady.{named_in_range}
 use Rattle.protected_loads.specs.acquire_retire.Collecting.{move}
 use Rattle.protected_loads.specs.acquire_retire.Domains.{DomainState}
 use Rattle.protected_loads.specs.acquire_retire.Seats.{SeatState}

@@ -18,7 +18,7 @@ use Rattle.protected_loads.specs.core_events.Runs.{Core, after, view_at}
 use Rattle.protected_loads.specs.core_events.Shows.{show_seat, shows}
 use Rattle.protected_loads.specs.core_events.Steps.{HasRoom}
 use Rattle.protected_loads.specs.core_events.Views.{valid_of}
-use Rattle.protected_loads.proofs.Below.core_law.Bridge.{shown_seat}
+use Rattle.protected_loads.proofs.Below.core_law_Bridge.{shown_seat}
 use Rattle.protected_loads.specs.acquire_retire.Calls.{Steps}
 use Rattle.protected_loads.specs.acquire_retire.Collecting.{WalksBy}
 use Rattle.protected_loads.specs.acquire_retire.Domains.{DomainState}

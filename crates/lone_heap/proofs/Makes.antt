@@ -27,8 +27,8 @@ use Rattle.protected_loads.specs.core_events.ShownSteps.{on_slot}
 use Rattle.protected_loads.specs.core_events.Steps.{HasRoom}
 use Rattle.protected_loads.specs.core_events.Views.{about, slot_of}
 use Rattle.protected_loads.specs.core_events.Words.{bit_in, bits_at, each_from, slot_at}
-use Rattle.protected_loads.proofs.Below.core_law.Each.{length_each}
-use Rattle.protected_loads.proofs.Below.core_law.Bridge.{shown_stage}
+use Rattle.protected_loads.proofs.Below.core_law_Each.{length_each}
+use Rattle.protected_loads.proofs.Below.core_law_Bridge.{shown_stage}
 use Rattle.protected_loads.specs.acquire_retire.Calls.{IsSameView, Steps, same_view}
 use Rattle.protected_loads.specs.acquire_retire.Collecting.{Walks, move}
 use Rattle.protected_loads.specs.acquire_retire.Domains.{DomainState}

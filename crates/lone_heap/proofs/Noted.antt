@@ -5,7 +5,7 @@ use Rattle.std.proofs.lemmas.Bool.{cases_lt}
 use Rattle.protected_loads.specs.plain_state.declared.slot.Kind.TheVariants.{Strong}
 use Rattle.protected_loads.specs.plain_state.declared.slot.SlotId.{SlotId}
 use Rattle.protected_loads.specs.plain_state.Lists.{Entry, entry_times}
-use Rattle.protected_loads.proofs.Below.plain_state.Kit.{entry_cons, entry_in, entry_is, entry_none}
+use Rattle.protected_loads.proofs.Below.plain_state_Kit.{entry_cons, entry_in, entry_is, entry_none}
 use Rattle.protected_loads.specs.core_events.declared.view.CoreView.{CoreView}
 use Rattle.protected_loads.specs.core_events.declared.view.Note.{Note}
 use Rattle.protected_loads.specs.core_events.declared.view.Note.TheVariants as note

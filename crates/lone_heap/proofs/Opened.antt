@@ -5,7 +5,7 @@ use Rattle.std.specs.Prelude.{slice_index_or}
 use Rattle.protected_loads.specs.plain_state.Limits.{most_cells, most_slots, most_weak_cells}
 use Rattle.protected_loads.specs.plain_state.declared.slot.Kind.TheVariants.{Disposal}
 use Rattle.protected_loads.specs.plain_state.State.{Plain, empty, seat_at}
-use Rattle.protected_loads.proofs.Below.plain_state.Kit.{entry_none}
+use Rattle.protected_loads.proofs.Below.plain_state_Kit.{entry_none}
 use Rattle.atomic_table.specs.Seated.{TableId}
 use Rattle.protected_loads.specs.core_events.declared.shape.Quota.{Quota}
 use Rattle.protected_loads.specs.core_events.declared.shape.Shape.{Shape}
@@ -15,12 +15,12 @@ use Rattle.protected_loads.specs.core_events.Runs.{AreTerms, IsQuota, IsShape}
 use Rattle.protected_loads.specs.core_functions.Fields.{IsFirstBad, IsInRange}
 use Rattle.protected_loads.specs.core_events.Steps.{HasRoom}
 use Rattle.protected_loads.specs.core_events.Views.{Terms}
-use Rattle.slot_store.proofs.Below.domain_rule.StartShown.{start_shown}
+use Rattle.slot_store.proofs.Below.domain_rule_StartShown.{start_shown}
 use Rattle.protected_loads.specs.acquire_retire.Domains.{DomainState}
 use Rattle.protected_loads.specs.acquire_retire.Openings.{begun_seat, opened_seats}
 use Rattle.protected_loads.specs.acquire_retire.Seats.{SeatState}
 use Rattle.protected_loads.specs.control_word.Resting.{IsAtRest}
-use Rattle.protected_loads.proofs.Below.control_word.Beginning.{all_at_rest}
+use Rattle.protected_loads.proofs.Below.control_word_Beginning.{all_at_rest}
 use Rattle.lone_heap.specs.Lone.{IsReady, known_plain}
 
 -- such a domain, whatever its sizes and its seat's quota

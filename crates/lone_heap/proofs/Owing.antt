@@ -8,12 +8,12 @@ use Rattle.protected_loads.specs.plain_state.declared.slot.SlotId.{SlotId}
 use Rattle.protected_loads.specs.plain_state.Ejection.{Announcements, ejected, kept}
 use Rattle.protected_loads.specs.plain_state.Lists.{Entry, entry_times}
 use Rattle.protected_loads.specs.plain_state.State.{PlainSeat}
-use Rattle.protected_loads.proofs.Below.plain_state.Ejections.{kept_times, split_times}
-use Rattle.protected_loads.proofs.Below.plain_state.Kit.{entry_append, entry_cons, entry_in, entry_is, entry_none, entry_self}
+use Rattle.protected_loads.proofs.Below.plain_state_Ejections.{kept_times, split_times}
+use Rattle.protected_loads.proofs.Below.plain_state_Kit.{entry_append, entry_cons, entry_in, entry_is, entry_none, entry_self}
 use Rattle.plain_settling.specs.Settling.{IsSurplus}
 use Rattle.protected_loads.specs.announce_slots.Seen.{announced_in}
 use Rattle.protected_loads.specs.announce_slots.Words.{code}
-use Rattle.protected_loads.proofs.Below.announce_slots.Counting.{seen_cons, word_one, word_same}
+use Rattle.protected_loads.proofs.Below.announce_slots_Counting.{seen_cons, word_one, word_same}
 use Rattle.protected_loads.specs.core_events.declared.act.Act.{Act}
 use Rattle.protected_loads.specs.core_events.declared.act.Act.TheVariants as act
 use Rattle.protected_loads.specs.core_events.declared.shape.Shape.{Shape}

@@ -24,7 +24,7 @@ use Rattle.protected_loads.specs.core_events.Shows.{shows}
 use Rattle.protected_loads.specs.core_events.Steps.{CanGive, HasRoom, without_given}
 use Rattle.protected_loads.specs.core_events.Views.{IsOpen, IsReadable}
 use Rattle.protected_loads.specs.core_events.Words.{cell_at, slot_in, weak_cell_at}
-use Rattle.protected_loads.proofs.Below.core_law.Each.{length_each}
+use Rattle.protected_loads.proofs.Below.core_law_Each.{length_each}
 use Rattle.protected_loads.specs.acquire_retire.Calls.{IsSameView, same_view}
 use Rattle.protected_loads.specs.acquire_retire.Collecting.{move}
 use Rattle.protected_loads.specs.acquire_retire.Domains.{DomainState}
@@ -33,7 +33,7 @@ use Rattle.protected_loads.specs.acquire_retire.Wholes.{known_core}
 use Rattle.protected_loads.specs.control_word.Resting.{IsAtRest}
 use Rattle.slot_store.specs.retiring_stores.Exchanging.{Exchanges, Loses, Replaces, Swaps}
 use Rattle.slot_store.specs.retiring_stores.Scanning.{Collected, IsBelow, IsDue, ScansWhereDue}
-use Rattle.snapshot_ptr.proofs.Below.retiring_stores.Opened.{stores}
+use Rattle.snapshot_ptr.proofs.Below.retiring_stores_Opened.{stores}
 use Rattle.slot_store.proofs.Objects.{known_before}
 use Rattle.lone_heap.specs.Lone.{IsReady, ThenTidies, known_plain}
 use Rattle.lone_heap.specs.Trails.{Shows, ShowsTry}

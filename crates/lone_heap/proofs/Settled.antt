@@ -13,7 +13,7 @@ use Rattle.protected_loads.specs.core_events.Runs.{Core, view_at}
 use Rattle.protected_loads.specs.core_events.Shows.{show_seat}
 use Rattle.protected_loads.specs.core_events.Steps.{HasRoom, IsIdle}
 use Rattle.protected_loads.specs.core_events.Views.{valid_of}
-use Rattle.protected_loads.proofs.Below.core_law.Bridge.{shown_seat}
+use Rattle.protected_loads.proofs.Below.core_law_Bridge.{shown_seat}
 use Rattle.protected_loads.specs.acquire_retire.Collecting.{rest_of}
 use Rattle.protected_loads.specs.acquire_retire.Domains.{DomainState}
 use Rattle.protected_loads.specs.acquire_retire.Seats.{SeatState}

@@ -8,7 +8,7 @@ use Rattle.protected_loads.specs.plain_state.Lists.{entry_times}
 use Rattle.protected_loads.specs.plain_state.Places.{HoldsStrongly}
 use Rattle.protected_loads.specs.plain_state.State.{PlainSeat, seat_at}
 use Rattle.protected_loads.specs.plain_state.Steps.{Does}
-use Rattle.protected_loads.proofs.Below.plain_state.Kit.{entry_cons, entry_none}
+use Rattle.protected_loads.proofs.Below.plain_state_Kit.{entry_cons, entry_none}
 use Rattle.plain_settling.specs.plain_store.Calls.{Gains}
 use Rattle.protected_loads.specs.core_events.declared.act.Act.TheVariants as act
 use Rattle.protected_loads.specs.core_events.declared.outcome.Outcome.{Outcome}
@@ -25,7 +25,7 @@ use Rattle.protected_loads.specs.acquire_retire.Domains.{DomainState}
 use Rattle.protected_loads.specs.acquire_retire.Seats.{SeatState}
 use Rattle.protected_loads.specs.control_word.Calls.{GainsStrong}
 use Rattle.protected_loads.specs.control_word.Resting.{IsAtRest}
-use Rattle.protected_loads.proofs.Below.control_word.Gaining.{counted, up}
+use Rattle.protected_loads.proofs.Below.control_word_Gaining.{counted, up}
 use Rattle.snapshot_ptr.proofs.Released.{released}
 use Rattle.lone_heap.specs.declared.words.Words.{Words}
 use Rattle.lone_heap.specs.Lone.{IsReady, known_plain}

@@ -12,12 +12,12 @@ use Rattle.protected_loads.specs.core_events.Good.{SeatLaw}
 use Rattle.protected_loads.specs.core_events.Runs.{Core}
 use Rattle.protected_loads.specs.core_events.Shows.{show_seat, shows}
 use Rattle.protected_loads.specs.core_events.ShownSteps.{shown_act, shown_number}
-use Rattle.protected_loads.proofs.Below.core_law.Bridge.{shown_seat}
-use Rattle.protected_loads.proofs.Below.core_law.Events.{event_shows}
+use Rattle.protected_loads.proofs.Below.core_law_Bridge.{shown_seat}
+use Rattle.protected_loads.proofs.Below.core_law_Events.{event_shows}
 use Rattle.protected_loads.specs.acquire_retire.Calls.{Steps}
 use Rattle.protected_loads.specs.acquire_retire.Domains.{DomainState}
 use Rattle.protected_loads.specs.acquire_retire.Seats.{SeatState}
-use Rattle.protected_loads.proofs.Below.control_word.Finding.{seat_there, sound_before}
+use Rattle.protected_loads.proofs.Below.control_word_Finding.{seat_there, sound_before}
 use Rattle.slot_store.proofs.Objects.{known_after, known_before}
 use Rattle.lone_heap.specs.Lone.{known_plain}
 

@@ -10,7 +10,7 @@ use Rattle.protected_loads.specs.core_events.declared.outcome.Outcome.{Outcome}
 use Rattle.protected_loads.specs.core_events.declared.view.CoreView.{CoreView}
 use Rattle.protected_loads.specs.core_events.declared.view.Move.{Move}
 use Rattle.protected_loads.specs.core_events.Steps.{answer}
-use Rattle.protected_loads.proofs.Below.core_law.Trails.{changed_trail}
+use Rattle.protected_loads.proofs.Below.core_law_Trails.{changed_trail}
 use Rattle.protected_loads.specs.acquire_retire.Calls.{Steps}
 use Rattle.protected_loads.specs.acquire_retire.Collecting.{move}
 use Rattle.protected_loads.specs.acquire_retire.Domains.{DomainState}

@@ -21,7 +21,7 @@ use Rattle.control_word.specs.acquire_retire.Seats.{SeatState}
 use Rattle.control_word.specs.Resting.{IsAtRest}
 use Rattle.atomic_shared.specs.protected_loads.Loads.{Misses}
 use Rattle.atomic_shared.specs.protected_loads.References.{Loads}
-use Rattle.atomic_shared.proofs.Below.protected_loads.Learning.{client_found, client_moved, client_null}
+use Rattle.atomic_shared.proofs.Below.protected_loads_Learning.{client_found, client_moved, client_null}
 use Rattle.slot_store.specs.protocol_pairs.Parts.{PutsBack, PutsOver}
 use Rattle.atomic_shared.specs.retiring_stores.Exchanging.{Exchanges, LosesTo, Replaces}
 use Rattle.slot_store.specs.Calls.{Makes}

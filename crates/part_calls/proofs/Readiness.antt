@@ -15,7 +15,7 @@ use Rattle.control_word.specs.core_events.Shows.{show_seat}
 use Rattle.control_word.specs.core_events.ShownSteps.{is_ripe_field, on_slot}
 use Rattle.control_word.specs.core_events.Views.{slot_of}
 use Rattle.control_word.specs.domain_rule.Views.{object_in, own_of}
-use Rattle.control_word.proofs.Below.domain_rule.Others.{fills_has}
+use Rattle.control_word.proofs.Below.domain_rule_Others.{fills_has}
 use Rattle.control_word.specs.acquire_retire.Calls.{IsReady}
 use Rattle.control_word.specs.acquire_retire.Domains.{DomainState}
 use Rattle.control_word.specs.acquire_retire.Seats.{SeatState}

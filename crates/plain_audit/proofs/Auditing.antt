@@ -9,7 +9,7 @@ use Rattle.heap_audit.specs.plain_state.declared.slot.Stage.{Stage}
 use Rattle.heap_audit.specs.plain_state.declared.slot.Stage.TheVariants.{Free, Blank, Live, Ended, Husk}
 use Rattle.heap_audit.specs.plain_state.Images.{IsImage}
 use Rattle.heap_audit.specs.plain_state.State.{Plain, slot_at, stage_at}
-use Rattle.heap_audit.proofs.Below.plain_state.SeatRows.{is_there}
+use Rattle.heap_audit.proofs.Below.plain_state_SeatRows.{is_there}
 use Rattle.cdrc_plain.specs.plain_store.Heaps.{IsHeap}
 use Rattle.cdrc_plain.specs.plain_store.Settling.{IsSettled}
 use Rattle.heap_audit.specs.declared.finding.Audit.{Audit}

@@ -6,7 +6,7 @@ use Rattle.heap_audit.specs.plain_state.declared.slot.PlainSlot.{PlainSlot}
 use Rattle.heap_audit.specs.plain_state.Lawful.{HasNullFields}
 use Rattle.heap_audit.specs.plain_state.State.{Plain, new_slot}
 use Rattle.heap_audit.specs.plain_state.References.{held_in, over_slots, strong_fields, strong_refs}
-use Rattle.heap_audit.proofs.Below.plain_state.Kit.{held_none}
+use Rattle.heap_audit.proofs.Below.plain_state_Kit.{held_none}
 use Rattle.cdrc_plain.specs.plain_store.Settling.{IsSettled}
 use Rattle.heap_audit.specs.Heaps.{slot}
 use Rattle.heap_audit.specs.Reached.{HowMany}

@@ -11,7 +11,7 @@ use Rattle.heap_audit.specs.plain_state.Lists.{Entry, times}
 use Rattle.heap_audit.specs.plain_state.State.{Plain, slot_at, stage_at}
 use Rattle.heap_audit.specs.plain_state.References.{dying_times}
 use Rattle.heap_audit.specs.plain_state.Steps.{word_of}
-use Rattle.heap_audit.proofs.Below.plain_state.Kit.{times_none}
+use Rattle.heap_audit.proofs.Below.plain_state_Kit.{times_none}
 use Rattle.cdrc_plain.specs.plain_store.Heaps.{IsHeap}
 use Rattle.cdrc_plain.specs.plain_store.Settling.{IsSettled}
 use Rattle.heap_audit.specs.Heaps.{slot, image_of, HasNullFields, IsLawful, Within, HasFieldsWithin, IsInRange, HasFittingPayloads}

@@ -15,10 +15,10 @@ use Rattle.heap_audit.specs.counter_word.Words.{value}
 use Rattle.heap_audit.specs.plain_state.Lists.{cell_times, entry_times}
 use Rattle.heap_audit.specs.plain_state.State.{Plain, new_slot, slot_at, stage_at}
 use Rattle.heap_audit.specs.plain_state.References.{over_slots, strong_fields, deferrals, strong_refs}
-use Rattle.heap_audit.proofs.Below.plain_state.Changes.{owned_times}
-use Rattle.heap_audit.proofs.Below.plain_state.Kit.{none_by}
-use Rattle.heap_audit.proofs.Below.plain_state.SeatRows.{is_there}
-use Rattle.heap_audit.proofs.Below.plain_state.SlotLaw.{numbers, slot_law, live_unmarked}
+use Rattle.heap_audit.proofs.Below.plain_state_Changes.{owned_times}
+use Rattle.heap_audit.proofs.Below.plain_state_Kit.{none_by}
+use Rattle.heap_audit.proofs.Below.plain_state_SeatRows.{is_there}
+use Rattle.heap_audit.proofs.Below.plain_state_SlotLaw.{numbers, slot_law, live_unmarked}
 use Rattle.cdrc_plain.specs.plain_store.Heaps.{IsHeap}
 use Rattle.cdrc_plain.specs.plain_store.Settling.{IsSettled}
 use Rattle.heap_audit.specs.Heaps.{slot, image_of, IsLive, names, fields_holding, in_fields, in_cells, in_deferred, entries, strong_count}

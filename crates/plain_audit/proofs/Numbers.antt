@@ -11,7 +11,7 @@ use Rattle.heap_audit.specs.plain_state.Lists.{holds, cell_times}
 use Rattle.heap_audit.specs.plain_state.State.{Plain, PlainSeat, new_seat, new_slot, seat_at}
 use Rattle.heap_audit.specs.plain_state.References.{held_in, over_seats, over_slots}
 use Rattle.heap_audit.specs.plain_state.Steps.{word_of}
-use Rattle.heap_audit.proofs.Below.plain_state.Kit.{held_none, held_same, held_other}
+use Rattle.heap_audit.proofs.Below.plain_state_Kit.{held_none, held_same, held_other}
 use Rattle.heap_audit.specs.Heaps.{names, held}
 use Rattle.heap_audit.proofs.Holding.{held_here, held_not}
 

@@ -10,9 +10,9 @@ use Rattle.heap_audit.specs.plain_state.Places.{place_kind, content}
 use Rattle.heap_audit.specs.plain_state.References.{held_in, places, deferrals}
 use Rattle.heap_audit.specs.plain_state.Sound.{Sound}
 use Rattle.heap_audit.specs.plain_state.Steps.{word_of}
-use Rattle.heap_audit.proofs.Below.plain_state.Changes.{IsThere, place_part, seat_part}
-use Rattle.heap_audit.proofs.Below.plain_state.Kit.{held_self, entry_self, entry_cons}
-use Rattle.heap_audit.proofs.Below.plain_state.SeatRows.{is_there}
+use Rattle.heap_audit.proofs.Below.plain_state_Changes.{IsThere, place_part, seat_part}
+use Rattle.heap_audit.proofs.Below.plain_state_Kit.{held_self, entry_self, entry_cons}
+use Rattle.heap_audit.proofs.Below.plain_state_SeatRows.{is_there}
 use Rattle.cdrc_plain.specs.plain_store.Heaps.{NoDisposals}
 use Rattle.plain_audit.proofs.Numbers.{seat_alone}
 

@@ -1,2 +1,3 @@
 -- What callers cite of the proofs below.
-pub use Rattle.plain_state.proofs as plain_state
+pub use Rattle.plain_state.proofs.Kit as plain_state_Kit
+pub use Rattle.plain_state.proofs.Start as plain_state_Start

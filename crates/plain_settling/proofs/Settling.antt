@@ -9,7 +9,7 @@ use Rattle.plain_store.specs.plain_state.declared.slot.SlotId.{SlotId}
 use Rattle.plain_store.specs.plain_state.Lists.{Entry, entry_times}
 use Rattle.plain_store.specs.plain_state.State.{Plain, PlainSeat, seat_at}
 use Rattle.plain_store.specs.plain_state.Steps.{Does}
-use Rattle.plain_store.proofs.Below.plain_state.Kit.{entry_append, entry_cons, entry_in, entry_self}
+use Rattle.plain_store.proofs.Below.plain_state_Kit.{entry_append, entry_cons, entry_in, entry_self}
 use Rattle.plain_store.specs.Settling.{EjectsLater, Settles, SettlesBy, SettlesTo}
 use Rattle.plain_settling.specs.Settling.{IsSurplus, Tidies, TidiesBy, TidiesTo}
 

@@ -1,2 +1,2 @@
 -- What callers cite of the proofs below.
-pub use Rattle.counter_word.proofs as counter_word
+pub use Rattle.counter_word.proofs.Bits as counter_word_Bits

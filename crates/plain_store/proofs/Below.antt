@@ -1,2 +1,2 @@
 -- What callers cite of the proofs below.
-pub use Rattle.plain_state.proofs as plain_state
+pub use Rattle.plain_state.proofs.Kit as plain_state_Kit

@@ -20,7 +20,7 @@ use Rattle.control_word.specs.core_events.Shows.{show_seat}
 use Rattle.control_word.specs.core_events.Steps.{IsIdle, is_valid, validated, with_note}
 use Rattle.control_word.specs.core_events.Views.{IsReadable, note_of}
 use Rattle.control_word.specs.core_events.Words.{slot_in}
-use Rattle.control_word.proofs.Below.core_law.ShownPlaces.{slot_word, word_slot}
+use Rattle.control_word.proofs.Below.core_law_ShownPlaces.{slot_word, word_slot}
 use Rattle.control_word.specs.acquire_retire.Calls.{IsOf, IsSameView, Steps, same_view}
 use Rattle.control_word.specs.acquire_retire.Collecting.{move}
 use Rattle.control_word.specs.acquire_retire.Domains.{DomainState}

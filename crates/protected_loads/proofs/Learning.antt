@@ -20,12 +20,12 @@ use Rattle.control_word.specs.core_events.Shows.{show_seat, shows}
 use Rattle.control_word.specs.core_events.Steps.{HasRoom}
 use Rattle.control_word.specs.core_events.Words.{slot_in}
 use Rattle.control_word.specs.core_events.Runs.{after}
-use Rattle.control_word.proofs.Below.core_law.ShownPlaces.{word_slot}
+use Rattle.control_word.proofs.Below.core_law_ShownPlaces.{word_slot}
 use Rattle.control_word.specs.domain_rule.Views.{object_in, own_of}
 use Rattle.control_word.specs.acquire_retire.Calls.{Steps}
 use Rattle.control_word.specs.acquire_retire.Domains.{DomainState}
 use Rattle.control_word.specs.acquire_retire.Seats.{SeatState}
-use Rattle.control_word.proofs.Below.acquire_retire.Contents.{check_on}
+use Rattle.control_word.proofs.Below.acquire_retire_Contents.{check_on}
 use Rattle.control_word.specs.Resting.{IsAtRest}
 use Rattle.protected_loads.specs.Loads.{FindsNull, Misses}
 use Rattle.protected_loads.specs.References.{Loads, Refers, with_reference}

@@ -19,12 +19,12 @@ use Rattle.control_word.specs.core_events.Shows.{show_seat, shows}
 use Rattle.control_word.specs.core_events.Steps.{IsIdle}
 use Rattle.control_word.specs.core_events.Views.{note_of}
 use Rattle.control_word.specs.core_events.Words.{slot_in}
-use Rattle.control_word.proofs.Below.core_law.ShownPlaces.{slot_word, word_slot}
+use Rattle.control_word.proofs.Below.core_law_ShownPlaces.{slot_word, word_slot}
 use Rattle.control_word.specs.acquire_retire.Calls.{IsOf, IsSameView, Steps, same_view}
 use Rattle.control_word.specs.acquire_retire.Collecting.{move}
 use Rattle.control_word.specs.acquire_retire.Domains.{DomainState}
 use Rattle.control_word.specs.acquire_retire.Seats.{SeatState}
-use Rattle.control_word.proofs.Below.acquire_retire.Contents.{look_on}
+use Rattle.control_word.proofs.Below.acquire_retire_Contents.{look_on}
 use Rattle.control_word.specs.Moves.{Becomes, KnowsStill}
 use Rattle.control_word.specs.Resting.{IsAtRest}
 use Rattle.control_word.proofs.Becoming.{Comes, bare, comes_more, comes_one, knows_after, one_step, rest_after}

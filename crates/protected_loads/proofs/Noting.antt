@@ -10,7 +10,7 @@ use Rattle.control_word.specs.plain_state.declared.slot.Kind.{Kind}
 use Rattle.control_word.specs.plain_state.declared.slot.Kind.TheVariants.{Strong, Weak, Disposal}
 use Rattle.control_word.specs.plain_state.declared.slot.SlotId.{SlotId}
 use Rattle.control_word.specs.plain_state.Lists.{Entry, Gains, entry_times, times}
-use Rattle.control_word.proofs.Below.plain_state.Kit.{entry_loses, entry_self}
+use Rattle.control_word.proofs.Below.plain_state_Kit.{entry_loses, entry_self}
 use Rattle.control_word.specs.plain_protocol.Owns.{HasSlot, Object}
 use Rattle.control_word.specs.core_events.declared.shape.Shape.{Shape}
 use Rattle.control_word.specs.core_events.declared.view.CoreView.{CoreView}
@@ -21,7 +21,7 @@ use Rattle.control_word.specs.core_events.Shows.{show_seat}
 use Rattle.control_word.specs.core_events.ShownSteps.{releases}
 use Rattle.control_word.specs.core_events.Steps.{with_note}
 use Rattle.control_word.specs.core_events.Views.{CanReadFields, Holds, IsReadable, note_of, valid_of}
-use Rattle.control_word.proofs.Below.core_law.Losing.{IsNotValid, valid_gains, valid_same}
+use Rattle.control_word.proofs.Below.core_law_Losing.{IsNotValid, valid_gains, valid_same}
 use Rattle.control_word.specs.domain_rule.Told.{changed_object}
 use Rattle.control_word.specs.acquire_retire.Domains.{DomainState}
 use Rattle.control_word.specs.acquire_retire.Seats.{SeatState}

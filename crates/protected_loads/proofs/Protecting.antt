@@ -20,7 +20,7 @@ use Rattle.control_word.specs.acquire_retire.Calls.{IsOf, IsSameView, Steps, sam
 use Rattle.control_word.specs.acquire_retire.Collecting.{move}
 use Rattle.control_word.specs.acquire_retire.Domains.{DomainState}
 use Rattle.control_word.specs.acquire_retire.Seats.{SeatState}
-use Rattle.control_word.proofs.Below.acquire_retire.Contents.{check_on}
+use Rattle.control_word.proofs.Below.acquire_retire_Contents.{check_on}
 use Rattle.control_word.specs.domain_rule.Views.{object_in}
 use Rattle.control_word.specs.Moves.{Becomes, KnowsStill}
 use Rattle.control_word.specs.Resting.{IsAtRest}

@@ -21,7 +21,7 @@ use Rattle.control_word.specs.core_events.declared.view.Note.TheVariants as note
 use Rattle.control_word.specs.core_events.Shows.{show_seat}
 use Rattle.control_word.specs.core_events.Steps.{IsIdle, with_note}
 use Rattle.control_word.specs.core_events.Views.{note_of, snapshots}
-use Rattle.control_word.proofs.Below.core_law.Kit.{times_push}
+use Rattle.control_word.proofs.Below.core_law_Kit.{times_push}
 use Rattle.control_word.specs.acquire_retire.Calls.{IsOf, IsSameView, Steps, same_view}
 use Rattle.control_word.specs.acquire_retire.Collecting.{move}
 use Rattle.control_word.specs.acquire_retire.Domains.{DomainState}

@@ -19,14 +19,14 @@ use Rattle.control_word.specs.core_events.Shows.{show_seat, shows}
 use Rattle.control_word.specs.core_events.ShownSteps.{shown_act, shown_number}
 use Rattle.control_word.specs.core_events.Views.{Holds, Terms}
 use Rattle.control_word.specs.core_events.Words.{place_at, slot_in}
-use Rattle.control_word.proofs.Below.core_law.InRange.{content_in}
-use Rattle.control_word.proofs.Below.core_law.Writes.{IsPlace}
-use Rattle.control_word.proofs.Below.core_law.Events.{event_shows}
-use Rattle.control_word.proofs.Below.core_law.ShownPlaces.{shown_content, word_slot}
+use Rattle.control_word.proofs.Below.core_law_InRange.{content_in}
+use Rattle.control_word.proofs.Below.core_law_Writes.{IsPlace}
+use Rattle.control_word.proofs.Below.core_law_Events.{event_shows}
+use Rattle.control_word.proofs.Below.core_law_ShownPlaces.{shown_content, word_slot}
 use Rattle.control_word.specs.domain_rule.declared.view.SeatView.{SeatView}
 use Rattle.control_word.specs.domain_rule.Told.{Told}
 use Rattle.control_word.specs.domain_rule.Views.{own_of}
-use Rattle.control_word.proofs.Below.acquire_retire.Contents.{IsOn}
+use Rattle.control_word.proofs.Below.acquire_retire_Contents.{IsOn}
 use Rattle.control_word.proofs.Finding.{sound_before}
 
 module _ {V : Type 0} {fits : List ℕ → Type 0} {z : Shape} {ts : Terms}

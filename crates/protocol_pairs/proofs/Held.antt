@@ -10,7 +10,7 @@ use Rattle.plain_protocol.specs.plain_state.Lawful.{Lawful}
 use Rattle.plain_protocol.specs.plain_state.Places.{held_times}
 use Rattle.plain_protocol.specs.plain_state.References.{held_in, strong_fields}
 use Rattle.plain_protocol.specs.plain_state.State.{Plain, new_slot, seat_at, slot_at, stage_at}
-use Rattle.plain_protocol.proofs.Below.plain_state.Kit.{cells_at, held_self, slots_at}
+use Rattle.plain_protocol.proofs.Below.plain_state_Kit.{cells_at, held_self, slots_at}
 use Rattle.plain_protocol.specs.Owns.{HasSlot, object_of, own_part}
 
 is_held : (s : SlotId) (place : Option SlotId) → place ≡ Some s → held_in s place ≡ 1

@@ -14,7 +14,7 @@ use Rattle.plain_protocol.specs.plain_state.State.{Plain, new_slot, slot_at}
 use Rattle.plain_protocol.specs.plain_state.Lawful.{Lawful}
 use Rattle.plain_protocol.specs.plain_state.Places.{with_field}
 use Rattle.plain_protocol.specs.plain_state.Steps.{Does, Replaces}
-use Rattle.plain_protocol.proofs.Below.plain_state.Kit.{cases_slot}
+use Rattle.plain_protocol.proofs.Below.plain_state_Kit.{cases_slot}
 use Rattle.plain_protocol.specs.Acts.{Owned, OwnsPlace, IsCalm, IsForeign}
 use Rattle.plain_protocol.specs.Calm.{IsKeptAs, IsCalmed}
 use Rattle.plain_protocol.proofs.Calm.{calm_leaves}

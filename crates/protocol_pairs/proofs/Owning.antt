@@ -5,7 +5,7 @@ use Rattle.plain_protocol.specs.plain_state.declared.slot.Stage.TheVariants.{Liv
 use Rattle.plain_protocol.specs.plain_state.Lawful.{Lawful}
 use Rattle.plain_protocol.specs.plain_state.Lists.{times}
 use Rattle.plain_protocol.specs.plain_state.State.{Plain, PlainSeat, seat_at, stage_at}
-use Rattle.plain_protocol.proofs.Below.plain_state.Kit.{seats_at}
+use Rattle.plain_protocol.proofs.Below.plain_state_Kit.{seats_at}
 
 pub owned_live : (p : Plain) (n : ℕ) (x : SlotId) → Lawful p → n < length p.seats
     → 0 < times x (seat_at p n).owned → stage_at p x ≡ Live

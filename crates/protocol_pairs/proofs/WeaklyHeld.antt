@@ -15,7 +15,7 @@ use Rattle.plain_protocol.specs.plain_state.Places.{with_field}
 use Rattle.plain_protocol.specs.plain_state.References.{held_in}
 use Rattle.plain_protocol.specs.plain_state.State.{Plain, new_slot, slot_at}
 use Rattle.plain_protocol.specs.plain_state.Steps.{Does, Replaces}
-use Rattle.plain_protocol.proofs.Below.plain_state.Kit.{cases_slot, cells_at, held_self}
+use Rattle.plain_protocol.proofs.Below.plain_state_Kit.{cases_slot, cells_at, held_self}
 use Rattle.plain_protocol.specs.Calm.{IsMade}
 use Rattle.plain_protocol.proofs.Calm.{calm_leaves}
 

@@ -12,7 +12,7 @@ use Rattle.plain_protocol.specs.plain_state.State.{Plain, PlainSeat, seat_at, ne
 use Rattle.plain_protocol.specs.plain_state.State as state
 use Rattle.plain_protocol.specs.plain_state.Lawful.{Lawful}
 use Rattle.plain_protocol.specs.plain_state.Steps.{word_of, Does, Replaces, GivesUp}
-use Rattle.plain_protocol.proofs.Below.plain_state.Kit.{times_lost}
+use Rattle.plain_protocol.proofs.Below.plain_state_Kit.{times_lost}
 use Rattle.plain_protocol.specs.Acts.{IsCalm}
 use Rattle.plain_protocol.proofs.Calm.{calm_leaves}
 use Rattle.queue_law.proofs.Quiet as quiet

@@ -16,7 +16,7 @@ use Rattle.plain_protocol.specs.plain_state.State as state
 use Rattle.plain_protocol.specs.plain_state.Lawful.{Lawful}
 use Rattle.plain_protocol.specs.plain_state.Steps.{word_of}
 use Rattle.plain_protocol.specs.plain_state.Places as places
-use Rattle.plain_protocol.proofs.Below.plain_state.Kit.{slot_is, held_same, cells_at, slots_at, seats_at, times_none, entry_none}
+use Rattle.plain_protocol.proofs.Below.plain_state_Kit.{slot_is, held_same, cells_at, slots_at, seats_at, times_none, entry_none}
 use Rattle.plain_protocol.specs.Owns.{own_part, object_of}
 use Rattle.queue_law.specs.Words.{slot_at, cell_at, code, Live, LIVE, strong_refs, weak_refs, times, held_times, life_of, payload_of, life_in, payload_in, id}
 

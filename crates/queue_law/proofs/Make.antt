@@ -15,7 +15,7 @@ use Rattle.queue_law.specs.Writes.{Makes}
 use Rattle.queue_law.specs.Owned.{Keeps}
 use Rattle.queue_law.specs.Nodes.{MakeReady, make_next, made}
 use Rattle.plain_protocol.specs.plain_state.References.{held_in}
-use Rattle.plain_protocol.proofs.Below.plain_state.Kit.{held_same}
+use Rattle.plain_protocol.proofs.Below.plain_state_Kit.{held_same}
 use Rattle.queue_law.proofs.Kit.{refs_second, referred, knows_times, knows_life, knows_payload}
 use Rattle.queue_law.proofs.Effects.{makes}
 use Rattle.queue_law.proofs.Chain.{chain_present}

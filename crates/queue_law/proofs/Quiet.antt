@@ -17,7 +17,7 @@ use Rattle.plain_protocol.specs.plain_state.State.{Plain, PlainSeat, new_slot, s
 use Rattle.plain_protocol.specs.plain_state.Lawful.{Lawful}
 use Rattle.plain_protocol.specs.plain_state.Places.{with_content}
 use Rattle.plain_protocol.specs.plain_state.Steps.{Does}
-use Rattle.plain_protocol.proofs.Below.plain_state.Kit.{cases_slot, seats_at, times_lost}
+use Rattle.plain_protocol.proofs.Below.plain_state_Kit.{cases_slot, seats_at, times_lost}
 use Rattle.plain_protocol.specs.Acts.{IsCalm}
 
 -- how the stage of a slot may change

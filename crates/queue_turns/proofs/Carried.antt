@@ -7,7 +7,7 @@ use Rattle.turn_loops.specs.plain_state.declared.slot.SlotId.{SlotId}
 use Rattle.turn_loops.specs.plain_state.Lists.{times}
 use Rattle.turn_loops.specs.core_events.declared.view.CoreView.{CoreView}
 use Rattle.turn_loops.specs.core_events.Views.{without}
-use Rattle.turn_loops.proofs.Below.core_law.Kit.{one_same, times_push, times_without}
+use Rattle.turn_loops.proofs.Below.core_law_Kit.{one_same, times_push, times_without}
 use Rattle.turn_loops.specs.acquire_retire.Calls.{IsSameView, same_view}
 use Rattle.turn_loops.specs.acquire_retire.Collecting.{ends}
 use Rattle.turn_loops.specs.acquire_retire.Domains.{DomainState}

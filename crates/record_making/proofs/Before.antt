@@ -5,7 +5,7 @@ use Rattle.atomic_shared.specs.plain_state.declared.slot.SlotId.{SlotId}
 use Rattle.atomic_shared.specs.plain_state.Lists.{times}
 use Rattle.atomic_shared.specs.plain_protocol.Owns.{Object}
 use Rattle.slot_store.specs.core_events.Views.{without}
-use Rattle.slot_store.proofs.Below.core_law.Kit.{one_same, times_push, times_without}
+use Rattle.slot_store.proofs.Below.core_law_Kit.{one_same, times_push, times_without}
 use Rattle.slot_store.specs.domain_rule.Views.{object_in}
 use Rattle.slot_store.specs.acquire_retire.Seats.{SeatState}
 use Rattle.directory_calls.specs.directory_law.declared.view.Rope.{Rope}

@@ -11,7 +11,7 @@ use Rattle.slot_store.specs.acquire_retire.Seats.{SeatState}
 use Rattle.slot_store.specs.control_word.Calls.{DropsStrong, with_ended, without_strong}
 use Rattle.slot_store.specs.control_word.Moves.{KnowsStill}
 use Rattle.slot_store.specs.control_word.Resting.{IsSpent}
-use Rattle.atomic_shared.proofs.Below.protected_loads.Telling.{holds_has}
+use Rattle.atomic_shared.proofs.Below.protected_loads_Telling.{holds_has}
 use Rattle.record_making.specs.Making.{AddsAsMakes}
 use Rattle.slot_store.specs.Calls.{HasNoMake}
 use Rattle.directory_calls.specs.Steps.{Leaves}

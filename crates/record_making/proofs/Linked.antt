@@ -13,14 +13,14 @@ use Rattle.slot_store.specs.core_events.declared.outcome.Outcome.TheVariants as 
 use Rattle.slot_store.specs.core_events.declared.view.CoreView.{CoreView}
 use Rattle.slot_store.specs.core_events.Steps.{without_given}
 use Rattle.slot_store.specs.core_events.Views.{without}
-use Rattle.slot_store.proofs.Below.core_law.Kit.{one_other, one_same, times_without}
+use Rattle.slot_store.proofs.Below.core_law_Kit.{one_other, one_same, times_without}
 use Rattle.slot_store.specs.domain_rule.Views.{object_in, own_of}
 use Rattle.slot_store.specs.acquire_retire.Calls.{IsSameView, same_view}
 use Rattle.slot_store.specs.acquire_retire.Domains.{DomainState}
 use Rattle.slot_store.specs.acquire_retire.Seats.{SeatState}
 use Rattle.slot_store.specs.control_word.Calls.{without_strong}
 use Rattle.slot_store.specs.control_word.Moves.{KnowsStill}
-use Rattle.atomic_shared.proofs.Below.protected_loads.Telling.{holds_has}
+use Rattle.atomic_shared.proofs.Below.protected_loads_Telling.{holds_has}
 use Rattle.atomic_shared.specs.retiring_stores.Exchanging.{Stores}
 use Rattle.atomic_shared.specs.retiring_stores.Scanning.{ScansWhereDue}
 use Rattle.directory_calls.specs.directory_law.declared.view.Rope.{Rope}

@@ -16,12 +16,12 @@ use Rattle.slot_store.specs.core_events.Shows.{show_seat}
 use Rattle.slot_store.specs.core_events.ShownSteps.{on_slot}
 use Rattle.slot_store.specs.core_events.Views.{slot_of}
 use Rattle.slot_store.specs.domain_rule.Views.{object_in, own_of}
-use Rattle.slot_store.proofs.Below.domain_rule.Others.{fills_has}
+use Rattle.slot_store.proofs.Below.domain_rule_Others.{fills_has}
 use Rattle.slot_store.specs.acquire_retire.Domains.{DomainState}
 use Rattle.slot_store.specs.acquire_retire.Seats.{SeatState}
 use Rattle.slot_store.specs.control_word.Moves.{KnowsStill}
 use Rattle.slot_store.specs.counted_handles.Handles.{Handle}
-use Rattle.atomic_shared.proofs.Below.protected_loads.Telling.{holds_has}
+use Rattle.atomic_shared.proofs.Below.protected_loads_Telling.{holds_has}
 use Rattle.slot_store.specs.declared.making.MakeError.{MakeError}
 use Rattle.slot_store.specs.declared.making.MakeError.TheVariants as refused
 use Rattle.slot_store.specs.Calls.{Begins, Makes, with_made}

@@ -20,7 +20,7 @@ use Rattle.control_word.specs.core_events.declared.view.Note.TheVariants as note
 use Rattle.control_word.specs.core_events.Shows.{show_seat}
 use Rattle.control_word.specs.core_events.ShownSteps.{shown_act}
 use Rattle.control_word.specs.core_events.Steps.{CanGive, HasRoom, May, without_given}
-use Rattle.control_word.proofs.Below.core_law.Kit.{times_without}
+use Rattle.control_word.proofs.Below.core_law_Kit.{times_without}
 use Rattle.control_word.specs.domain_rule.Told.{changed_object}
 use Rattle.control_word.specs.acquire_retire.Collecting.{rest_of}
 use Rattle.control_word.specs.acquire_retire.Domains.{DomainState}

@@ -25,7 +25,7 @@ use Rattle.control_word.specs.core_events.Shows.{filled, show_seat}
 use Rattle.control_word.specs.core_events.ShownSteps.{ejects, shown_act}
 use Rattle.control_word.specs.core_events.Steps.{all_seen, changed, ended, is_last, paid, scanned}
 use Rattle.control_word.specs.core_events.Views.{alone, slot_of}
-use Rattle.control_word.proofs.Below.core_law.Kit.{times_append}
+use Rattle.control_word.proofs.Below.core_law_Kit.{times_append}
 use Rattle.control_word.specs.counter_word.Words.{has_help}
 use Rattle.control_word.specs.domain_rule.Told.{changed_object, cleared_after}
 use Rattle.control_word.specs.domain_rule.Views.{object_in}
@@ -36,7 +36,7 @@ use Rattle.control_word.specs.acquire_retire.Calls.{IsSameView, Steps, same_view
 use Rattle.control_word.specs.acquire_retire.Collecting.{Collects, Walks, paid_by, read_by, scanned_by}
 use Rattle.control_word.specs.acquire_retire.Domains.{DomainState}
 use Rattle.control_word.specs.acquire_retire.Seats.{SeatState}
-use Rattle.control_word.proofs.Below.acquire_retire.Collects.{IsGathering, goes_by, is_of_after}
+use Rattle.control_word.proofs.Below.acquire_retire_Collects.{IsGathering, goes_by, is_of_after}
 use Rattle.control_word.specs.Resting.{IsAtRest, IsSettled}
 use Rattle.control_word.proofs.Following.{end_keeps, give_keeps}
 use Rattle.retiring_stores.specs.Scanning.{Collected, IsBelow}

@@ -15,7 +15,7 @@ use Rattle.control_word.specs.core_events.declared.outcome.Outcome.TheVariants a
 use Rattle.control_word.specs.core_events.declared.view.CoreView.{CoreView}
 use Rattle.control_word.specs.core_events.Steps.{CanGive, HasRoom, without_given}
 use Rattle.control_word.specs.core_events.Words.{slot_in}
-use Rattle.control_word.proofs.Below.core_law.ShownPlaces.{word_slot}
+use Rattle.control_word.proofs.Below.core_law_ShownPlaces.{word_slot}
 use Rattle.control_word.specs.acquire_retire.Calls.{Steps}
 use Rattle.control_word.specs.acquire_retire.Collecting.{move}
 use Rattle.control_word.specs.acquire_retire.Domains.{DomainState}

@@ -19,15 +19,15 @@ use Rattle.control_word.specs.core_events.ShownSteps.{is_ripe_field}
 use Rattle.control_word.specs.core_events.Views.{HoldsStrongly, IsOpen}
 use Rattle.control_word.specs.core_law.Slots.{numbers}
 use Rattle.control_word.specs.core_law.Sound.{Sound}
-use Rattle.control_word.proofs.Below.core_law.Flags.{live_low}
-use Rattle.control_word.proofs.Below.core_law.Held.{strongly_refs}
-use Rattle.control_word.proofs.Below.core_law.InRange.{open_in_range}
-use Rattle.control_word.proofs.Below.core_law.Kit.{total_at}
-use Rattle.control_word.proofs.Below.core_law.Parts.{value_is}
-use Rattle.control_word.proofs.Below.core_law.Put.{adds_fit, at_seat}
-use Rattle.control_word.proofs.Below.core_law.Writes.{IsPlace}
-use Rattle.control_word.proofs.Below.core_law.Ranges.{counts_low}
-use Rattle.control_word.proofs.Below.core_law.Stages.{live_started}
+use Rattle.control_word.proofs.Below.core_law_Flags.{live_low}
+use Rattle.control_word.proofs.Below.core_law_Held.{strongly_refs}
+use Rattle.control_word.proofs.Below.core_law_InRange.{open_in_range}
+use Rattle.control_word.proofs.Below.core_law_Kit.{total_at}
+use Rattle.control_word.proofs.Below.core_law_Parts.{value_is}
+use Rattle.control_word.proofs.Below.core_law_Put.{adds_fit, at_seat}
+use Rattle.control_word.proofs.Below.core_law_Writes.{IsPlace}
+use Rattle.control_word.proofs.Below.core_law_Ranges.{counts_low}
+use Rattle.control_word.proofs.Below.core_law_Stages.{live_started}
 use Rattle.control_word.specs.domain_rule.Told.{cleared_after}
 use Rattle.control_word.specs.acquire_retire.Domains.{DomainState}
 use Rattle.control_word.specs.acquire_retire.Seats.{SeatState}

@@ -21,10 +21,10 @@ use Rattle.control_word.specs.core_events.Runs.{after, found, view_at}
 use Rattle.control_word.specs.core_events.Shows.{shows}
 use Rattle.control_word.specs.core_events.Steps.{answer, changed, exchanged, next as next_word, place}
 use Rattle.control_word.specs.core_events.Words.{place_at, slot_in}
-use Rattle.control_word.proofs.Below.core_law.InRange.{open_in_range, put_in_range}
-use Rattle.control_word.proofs.Below.core_law.Writes.{IsPlace, place_bound}
-use Rattle.control_word.proofs.Below.core_law.Trails.{changed_trail}
-use Rattle.control_word.proofs.Below.core_law.ShownPlaces.{shown_content, slot_word}
+use Rattle.control_word.proofs.Below.core_law_InRange.{open_in_range, put_in_range}
+use Rattle.control_word.proofs.Below.core_law_Writes.{IsPlace, place_bound}
+use Rattle.control_word.proofs.Below.core_law_Trails.{changed_trail}
+use Rattle.control_word.proofs.Below.core_law_ShownPlaces.{shown_content, slot_word}
 use Rattle.control_word.specs.acquire_retire.Calls.{Steps}
 use Rattle.control_word.specs.acquire_retire.Collecting.{move}
 use Rattle.control_word.specs.acquire_retire.Domains.{DomainState}

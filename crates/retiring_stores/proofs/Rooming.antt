@@ -14,7 +14,7 @@ use Rattle.control_word.specs.core_events.Good.{staying_room}
 use Rattle.control_word.specs.core_events.Runs.{Core, view_at}
 use Rattle.control_word.specs.core_events.Views.{Terms, no_view, room_of}
 use Rattle.control_word.specs.core_law.Sound.{Sound}
-use Rattle.control_word.proofs.Below.core_law.Always.{history_sound}
+use Rattle.control_word.proofs.Below.core_law_Always.{history_sound}
 use Rattle.control_word.specs.domain_rule.declared.view.SeatView.{SeatView}
 use Rattle.control_word.specs.domain_rule.Told.{Told}
 

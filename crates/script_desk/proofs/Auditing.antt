@@ -12,7 +12,7 @@ use Rattle.plain_audit.specs.plain_state.declared.slot.SlotId.{SlotId}
 use Rattle.plain_audit.specs.plain_state.declared.slot.PlainSlot.{PlainSlot}
 use Rattle.plain_audit.specs.plain_state.declared.slot.Stage.TheVariants.{Free, Live}
 use Rattle.plain_audit.specs.plain_state.State.{Plain, new_slot, stage_at}
-use Rattle.plain_audit.proofs.Below.plain_state.Kit.{none_or_some}
+use Rattle.plain_audit.proofs.Below.plain_state_Kit.{none_or_some}
 use Rattle.script_desk.specs.declared.said.Said.TheVariants.{Audited}
 use Rattle.script_desk.specs.declared.said.Shown.{Shown}
 use Rattle.script_desk.specs.Audits.{AreRanks, Shows, AnswersAudit}

@@ -8,7 +8,7 @@ use Rattle.plain_audit.specs.plain_state.declared.slot.SlotId.{SlotId}
 use Rattle.plain_audit.specs.plain_state.Lists.{Entry, times, entry_times}
 use Rattle.plain_audit.specs.plain_state.State.{Plain, PlainSeat, new_seat, new_slot, seat_at, with_seat, empty}
 use Rattle.plain_audit.specs.plain_state.Steps.{Does}
-use Rattle.plain_audit.proofs.Below.plain_state.Kit.{held_self, times_none, times_cons, entry_none, entry_cons}
+use Rattle.plain_audit.proofs.Below.plain_state_Kit.{held_self, times_none, times_cons, entry_none, entry_cons}
 use Rattle.script_desk.specs.declared.handle.Handle.{Handle}
 use Rattle.script_desk.specs.declared.handle.Handle.TheVariants.{Strong, Weak, Snapshot}
 use Rattle.script_desk.specs.Desks.{Names, Maker, without_handles}

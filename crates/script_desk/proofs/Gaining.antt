@@ -10,7 +10,7 @@ use Rattle.plain_audit.specs.plain_state.Places.{place_kind, content}
 use Rattle.plain_audit.specs.plain_state.Runs.{Runs}
 use Rattle.plain_audit.specs.plain_state.State.{Plain, PlainSeat, seat_at, with_seat}
 use Rattle.plain_audit.specs.plain_state.Steps.{Does, GivesUp, Replaces, joined}
-use Rattle.plain_audit.proofs.Below.plain_state.Kit.{times_push, times_loses, entry_loses}
+use Rattle.plain_audit.proofs.Below.plain_state_Kit.{times_push, times_loses, entry_loses}
 use Rattle.plain_settling.specs.plain_store.Heaps.{Makes, fills}
 use Rattle.plain_settling.specs.plain_store.Calls.{Gains, WeaklyGains, Loads, WeaklyLoads, strong_place}
 use Rattle.plain_settling.specs.Snapshots.{IsUnderMore, Takes}

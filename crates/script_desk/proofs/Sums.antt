@@ -5,7 +5,7 @@ use Rattle.std.specs.Map.{values_of}
 use Rattle.std.specs.Str.{bytes_eq}
 use Rattle.std.proofs.lemmas.List.Sums.{sum_by-cons}
 use Rattle.plain_audit.specs.plain_state.State.{Plain}
-use Rattle.plain_audit.proofs.Below.plain_state.Kit.{held_self}
+use Rattle.plain_audit.proofs.Below.plain_state_Kit.{held_self}
 use Rattle.script_desk.specs.declared.handle.Handle.{Handle}
 use Rattle.script_desk.specs.declared.handle.Handle.TheVariants.{Strong, Weak, Snapshot}
 use Rattle.script_desk.specs.Desks.{Names, Maker, bound}

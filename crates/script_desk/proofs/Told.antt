@@ -5,7 +5,7 @@ use Rattle.std.proofs.lemmas.List.{length-set, get_or-set_same, get_or-set_other
 use Rattle.plain_audit.specs.plain_state.declared.act.EventPlace.{EventPlace}
 use Rattle.plain_audit.specs.plain_state.declared.slot.SlotId.{SlotId}
 use Rattle.plain_audit.specs.plain_state.State.{Plain}
-use Rattle.plain_audit.proofs.Below.plain_state.Kit.{slot_is}
+use Rattle.plain_audit.proofs.Below.plain_state_Kit.{slot_is}
 use Rattle.plain_settling.specs.plain_store.Heaps.{Makes}
 use Rattle.plain_settling.specs.plain_store.Calls.{Loads, WeaklyLoads}
 use Rattle.script_desk.specs.declared.handle.Handle.TheVariants.{Strong, Weak}

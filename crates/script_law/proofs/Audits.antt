@@ -7,14 +7,14 @@ use Rattle.script_desk.specs.plain_state.declared.slot.SlotId.{SlotId}
 use Rattle.script_desk.specs.plain_state.declared.slot.Stage.{Stage}
 use Rattle.script_desk.specs.plain_state.declared.slot.Stage.TheVariants.{Free, Blank, Live, Ended, Husk}
 use Rattle.script_desk.specs.plain_state.State.{Plain, seat_at, slot_at, stage_at}
-use Rattle.script_desk.proofs.Below.plain_state.Kit.{none_or_some}
-use Rattle.script_desk.proofs.Below.plain_state.SeatRows.{is_there}
+use Rattle.script_desk.proofs.Below.plain_state_Kit.{none_or_some}
+use Rattle.script_desk.proofs.Below.plain_state_SeatRows.{is_there}
 use Rattle.script_desk.specs.heap_audit.declared.finding.Audit.{Audit}
 use Rattle.script_desk.specs.heap_audit.Heaps.{slot}
 use Rattle.script_desk.specs.heap_audit.Paths.{Path}
 use Rattle.script_desk.specs.heap_audit.Reached.{HowMany}
 use Rattle.script_desk.specs.heap_audit.Walks.{GoesRound, IsFoundAmong, rank_of}
-use Rattle.script_desk.proofs.Below.heap_audit.Alone.{one_walk_among}
+use Rattle.script_desk.proofs.Below.heap_audit_Alone.{one_walk_among}
 use Rattle.script_desk.specs.plain_audit.Audits.{IsAudit, deferred_entries, if_live, live_bytes, live_slots}
 use Rattle.script_desk.specs.plain_audit.Reached.{HasField, IsUnreached}
 use Rattle.script_desk.specs.declared.said.Said.{Said}
@@ -25,7 +25,7 @@ use Rattle.script_desk.specs.Kinds.{script_weight}
 use Rattle.script_law.specs.Desks.{DesksAlike}
 use Rattle.script_law.specs.Orderly.{IsOrderly}
 use Rattle.script_law.specs.Renamings.{IsRenaming}
-use Rattle.script_law.specs.Said.{SaidAlike, ShownAlike}
+use Rattle.script_law.specs.SaidAlike.{SaidAlike, ShownAlike}
 use Rattle.script_law.specs.States.{SlotsAlike}
 use Rattle.script_law.proofs.Counting.{as_many}
 use Rattle.script_law.proofs.Counts.{entries_length}

@@ -7,7 +7,7 @@ use Rattle.script_desk.specs.plain_state.declared.slot.Kind.{Kind}
 use Rattle.script_desk.specs.plain_state.declared.slot.SlotId.{SlotId}
 use Rattle.script_desk.specs.plain_state.Lists.{Entry, Loses, cell_times, entry_times, holds, times}
 use Rattle.script_desk.specs.plain_state.References.{held_in}
-use Rattle.script_desk.proofs.Below.plain_state.Kit.{cases_slot, cells_none, entries_in, entry_cons, entry_in, entry_loses, entry_none, entry_self, held_none, held_other, held_same, of_kind, slot_is, times_loses, times_push}
+use Rattle.script_desk.proofs.Below.plain_state_Kit.{cases_slot, cells_none, entries_in, entry_cons, entry_in, entry_loses, entry_none, entry_self, held_none, held_other, held_same, of_kind, slot_is, times_loses, times_push}
 use Rattle.script_law.specs.Renamings.{renamed}
 
 pub cells_cons : (s : SlotId) (c : Option SlotId) (cs : List (Option SlotId))

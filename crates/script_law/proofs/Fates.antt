@@ -12,9 +12,9 @@ use Rattle.script_desk.specs.plain_state.References.{held_in, places, strong_fie
 use Rattle.script_desk.specs.plain_state.Sound.{Sound}
 use Rattle.script_desk.specs.plain_state.State.{Plain, PlainSeat, new_seat, seat_at, slot_at, with_seat, with_slot}
 use Rattle.script_desk.specs.plain_state.Steps.{joined}
-use Rattle.script_desk.proofs.Below.plain_state.Changes.{slot_change, slot_other, slot_same}
-use Rattle.script_desk.proofs.Below.plain_state.Kit.{cases_slot, entry_in, entry_is, entry_loses, entry_self, none_or_some, of_kind}
-use Rattle.script_desk.proofs.Below.plain_state.PlaceRows.{joined_times}
+use Rattle.script_desk.proofs.Below.plain_state_Changes.{slot_change, slot_other, slot_same}
+use Rattle.script_desk.proofs.Below.plain_state_Kit.{cases_slot, entry_in, entry_is, entry_loses, entry_self, none_or_some, of_kind}
+use Rattle.script_desk.proofs.Below.plain_state_PlaceRows.{joined_times}
 
 -- what becomes of a slot: it keeps its payload; what is alive is as it was; what isn't as far as it was was made once,
 -- and isn't alive any more

@@ -8,8 +8,8 @@ use Rattle.script_desk.specs.plain_state.declared.slot.Kind.TheVariants as kind
 use Rattle.script_desk.specs.plain_state.Lists.{entry_times}
 use Rattle.script_desk.specs.plain_state.Sound.{Sound}
 use Rattle.script_desk.specs.plain_state.State.{Plain, empty, seat_at, slot_at, stage_at}
-use Rattle.script_desk.proofs.Below.plain_state.Kit.{entry_none, times_none}
-use Rattle.script_desk.proofs.Below.plain_state.Start.{every_slot_new, empty_sound}
+use Rattle.script_desk.proofs.Below.plain_state_Kit.{entry_none, times_none}
+use Rattle.script_desk.proofs.Below.plain_state_Start.{every_slot_new, empty_sound}
 use Rattle.script_desk.specs.declared.handle.Handle.{Handle}
 use Rattle.script_desk.specs.declared.handle.Handle.TheVariants.{Strong, Weak, Snapshot}
 use Rattle.script_desk.specs.Desks.{Desk, Names, bound, maker_of}

@@ -11,10 +11,10 @@ use Rattle.script_desk.specs.plain_state.Lists.{entry_times}
 use Rattle.script_desk.specs.plain_state.References.{held_in}
 use Rattle.script_desk.specs.plain_state.State.{Plain, PlainSeat, seat_at}
 use Rattle.script_desk.specs.plain_state.Steps.{Does, GivesUp, Replaces, joined}
-use Rattle.script_desk.proofs.Below.plain_state.EveryStep.{step_sound}
-use Rattle.script_desk.proofs.Below.plain_state.Kit.{of_kind}
-use Rattle.script_desk.proofs.Below.plain_state.PlaceRows.{gave, joined_times}
-use Rattle.script_desk.proofs.Below.plain_state.SeatRows.{open_there}
+use Rattle.script_desk.proofs.Below.plain_state_EveryStep.{step_sound}
+use Rattle.script_desk.proofs.Below.plain_state_Kit.{of_kind}
+use Rattle.script_desk.proofs.Below.plain_state_PlaceRows.{gave, joined_times}
+use Rattle.script_desk.proofs.Below.plain_state_SeatRows.{open_there}
 use Rattle.script_desk.specs.plain_store.Calls.{Loads, Puts, Tries, WeaklyLoads}
 use Rattle.script_desk.specs.plain_settling.Snapshots.{Takes}
 use Rattle.script_desk.specs.script_lines.declared.command.TextPlace.{TextPlace}

@@ -9,10 +9,10 @@ use Rattle.script_desk.specs.plain_state.declared.slot.Stage.TheVariants.{Free}
 use Rattle.script_desk.specs.plain_state.Lists.{entry_times}
 use Rattle.script_desk.specs.plain_state.declared.slot.Kind.TheVariants.{Disposal}
 use Rattle.script_desk.specs.plain_state.State.{Plain, PlainSeat, new_seat, new_slot, seat_at, slot_at, stage_at, with_seat}
-use Rattle.script_desk.proofs.Below.plain_state.Changes.{slot_other}
-use Rattle.script_desk.proofs.Below.plain_state.Kit.{cases_slot, slot_is}
+use Rattle.script_desk.proofs.Below.plain_state_Changes.{slot_other}
+use Rattle.script_desk.proofs.Below.plain_state_Kit.{cases_slot, slot_is}
 use Rattle.script_desk.specs.plain_store.Heaps.{Makes, NoneFree, fills, made_slot}
-use Rattle.script_desk.proofs.Below.plain_store.Making.{IsMake, made, make_is}
+use Rattle.script_desk.proofs.Below.plain_store_Making.{IsMake, made, make_is}
 use Rattle.script_desk.specs.declared.handle.Handle.TheVariants.{Strong}
 use Rattle.script_desk.specs.declared.said.Said.{Said}
 use Rattle.script_desk.specs.Desks.{Binds, Desk, MadeBy, Maker, bound, maker_of}

@@ -11,8 +11,8 @@ use Rattle.script_desk.specs.plain_state.Runs.{Runs}
 use Rattle.script_desk.specs.plain_state.Sound.{Sound}
 use Rattle.script_desk.specs.plain_state.Lists.{entry_times}
 use Rattle.script_desk.specs.plain_state.State.{Plain, PlainSeat, seat_at, stage_at, with_seat}
-use Rattle.script_desk.proofs.Below.plain_state.Changes.{IsThere, content_object}
-use Rattle.script_desk.proofs.Below.plain_state.EveryStep.{step_sound}
+use Rattle.script_desk.proofs.Below.plain_state_Changes.{IsThere, content_object}
+use Rattle.script_desk.proofs.Below.plain_state_EveryStep.{step_sound}
 use Rattle.script_desk.proofs.Grows.{placed, placed_same_sizes, written}
 use Rattle.script_law.specs.Orderly.{IsQuiet}
 use Rattle.script_law.proofs.Orderly.{Moves}

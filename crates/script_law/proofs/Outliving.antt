@@ -15,13 +15,13 @@ use Rattle.script_desk.specs.plain_state.References.{held_in, over_slots, snapsh
 use Rattle.script_desk.specs.plain_state.Sound.{Sound}
 use Rattle.script_desk.specs.plain_state.State.{Plain, PlainSeat, new_slot, with_slot, seat_at, slot_at, stage_at, with_seat}
 use Rattle.script_desk.specs.plain_state.Steps.{Does, joined}
-use Rattle.script_desk.proofs.Below.plain_state.Changes.{slot_other}
-use Rattle.script_desk.proofs.Below.plain_state.Kit.{cases_slot, held_none, none_by, none_or_some, slots_at, times_lost, times_none}
-use Rattle.script_desk.proofs.Below.plain_state.SeatRows.{is_there}
-use Rattle.script_desk.proofs.Below.plain_state.SlotRows.{dying_ended}
+use Rattle.script_desk.proofs.Below.plain_state_Changes.{slot_other}
+use Rattle.script_desk.proofs.Below.plain_state_Kit.{cases_slot, held_none, none_by, none_or_some, slots_at, times_lost, times_none}
+use Rattle.script_desk.proofs.Below.plain_state_SeatRows.{is_there}
+use Rattle.script_desk.proofs.Below.plain_state_SlotRows.{dying_ended}
 use Rattle.script_desk.specs.plain_store.Settling.{IsSettled}
 use Rattle.script_desk.specs.plain_settling.Settling.{Tidies}
-use Rattle.script_desk.proofs.Below.plain_audit.Numbers.{seat_alone}
+use Rattle.script_desk.proofs.Below.plain_audit_Numbers.{seat_alone}
 use Rattle.script_desk.specs.heap_audit.Heaps.{slot}
 use Rattle.script_law.specs.Renamings.{IsRenaming}
 use Rattle.script_law.specs.States.{StatesAlike}

@@ -6,7 +6,7 @@ use Rattle.script_desk.specs.plain_state.declared.slot.SlotId.{SlotId}
 use Rattle.script_desk.specs.plain_state.declared.slot.Stage.TheVariants.{Free}
 use Rattle.script_desk.specs.plain_state.Places.{content}
 use Rattle.script_desk.specs.plain_state.State.{stage_at}
-use Rattle.script_desk.proofs.Below.plain_state.SeatRows.{held_there}
+use Rattle.script_desk.proofs.Below.plain_state_SeatRows.{held_there}
 use Rattle.script_desk.specs.script_lines.declared.command.TextPlace.{TextPlace}
 use Rattle.script_desk.specs.script_lines.declared.command.TextPlace.TheVariants as text
 use Rattle.script_desk.specs.declared.handle.Handle.{Handle}

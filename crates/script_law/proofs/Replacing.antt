@@ -7,7 +7,7 @@ use Rattle.script_desk.specs.plain_state.Lists.{Loses}
 use Rattle.script_desk.specs.plain_state.Places.{IsOpen, content, place_kind}
 use Rattle.script_desk.specs.plain_state.State.{seat_at}
 use Rattle.script_desk.specs.plain_state.Steps.{Replaces}
-use Rattle.script_desk.proofs.Below.plain_state.SeatRows.{open_there}
+use Rattle.script_desk.proofs.Below.plain_state_SeatRows.{open_there}
 use Rattle.script_desk.specs.plain_store.Calls.{Puts, gained}
 use Rattle.script_desk.specs.plain_settling.Snapshots.{Takes}
 use Rattle.script_desk.specs.declared.handle.Handle.TheVariants.{Snapshot}

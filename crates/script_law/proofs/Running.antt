@@ -15,7 +15,7 @@ use Rattle.script_desk.specs.Kinds.{script_payload}
 use Rattle.script_law.specs.Desks.{Alike, DesksAlike}
 use Rattle.script_law.specs.Orderly.{IsOrderly}
 use Rattle.script_law.specs.Renamings.{IsRenaming}
-use Rattle.script_law.specs.Said.{SaidAlike}
+use Rattle.script_law.specs.SaidAlike.{SaidAlike}
 use Rattle.script_law.proofs.Acting.{Acted, acted}
 use Rattle.script_law.proofs.Audits.{audits_alike}
 use Rattle.script_law.proofs.Backwards.{renaming_back, tidied}

@@ -11,9 +11,9 @@ use Rattle.script_desk.specs.plain_state.Lists.{entry_times, times}
 use Rattle.script_desk.specs.plain_state.References.{deferrals, over_seats, own_reference, places, weak_refs}
 use Rattle.script_desk.specs.plain_state.Sound.{Sound}
 use Rattle.script_desk.specs.plain_state.State.{Plain, seat_at, slot_at, stage_at}
-use Rattle.script_desk.proofs.Below.plain_state.Kit.{none_by}
+use Rattle.script_desk.proofs.Below.plain_state_Kit.{none_by}
 use Rattle.script_desk.specs.plain_store.Settling.{IsSettled}
-use Rattle.script_desk.proofs.Below.plain_audit.Numbers.{seat_alone}
+use Rattle.script_desk.proofs.Below.plain_audit_Numbers.{seat_alone}
 use Rattle.script_law.specs.Renamings.{IsRenaming, renamed}
 use Rattle.script_law.specs.States.{SeatsAlike, SlotsAlike, StatesAlike}
 use Rattle.script_law.proofs.States.{FieldsAlike, fields_of, held_alike, places_alike}

@@ -13,9 +13,9 @@ use Rattle.script_desk.specs.plain_state.Lists.{cell_times, entry_times, times}
 use Rattle.script_desk.specs.plain_state.Places.{content, with_content, with_field}
 use Rattle.script_desk.specs.plain_state.References.{held_in, over_seats, over_slots, own_reference, places, deferrals, strong_fields, strong_refs, weak_fields, weak_refs}
 use Rattle.script_desk.specs.plain_state.State.{Plain, PlainSeat, new_seat, seat_at, slot_at, with_seat, with_slot}
-use Rattle.script_desk.proofs.Below.plain_state.Changes.{IsThere, slot_other, slot_same}
-use Rattle.script_desk.proofs.Below.plain_state.Kit.{cases_slot}
-use Rattle.script_desk.proofs.Below.plain_audit.Numbers.{seat_alone}
+use Rattle.script_desk.proofs.Below.plain_state_Changes.{IsThere, slot_other, slot_same}
+use Rattle.script_desk.proofs.Below.plain_state_Kit.{cases_slot}
+use Rattle.script_desk.proofs.Below.plain_audit_Numbers.{seat_alone}
 use Rattle.script_law.specs.Renamings.{IsRenaming, renamed}
 use Rattle.script_law.specs.States.{SeatsAlike, SlotsAlike, StatesAlike}
 use Rattle.script_law.proofs.Counts.{apart, cells_renamed, held_renamed}

@@ -10,9 +10,9 @@ use Rattle.script_desk.specs.plain_state.Lists.{Entry, Loses}
 use Rattle.script_desk.specs.plain_state.Places.{content, place_kind, with_content}
 use Rattle.script_desk.specs.plain_state.State.{Plain, PlainSeat, seat_at, with_seat}
 use Rattle.script_desk.specs.plain_state.Steps.{Does, GivesUp, Replaces, joined}
-use Rattle.script_desk.proofs.Below.plain_state.Changes.{IsThere}
-use Rattle.script_desk.proofs.Below.plain_state.Kit.{of_kind}
-use Rattle.script_desk.proofs.Below.plain_state.PlaceRows.{joined_times}
+use Rattle.script_desk.proofs.Below.plain_state_Changes.{IsThere}
+use Rattle.script_desk.proofs.Below.plain_state_Kit.{of_kind}
+use Rattle.script_desk.proofs.Below.plain_state_PlaceRows.{joined_times}
 use Rattle.script_desk.specs.plain_store.Calls.{gained, weakly_gained}
 use Rattle.script_law.specs.Renamings.{IsRenaming, renamed}
 use Rattle.script_law.specs.States.{SeatsAlike, StatesAlike}

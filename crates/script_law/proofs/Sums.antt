@@ -7,7 +7,7 @@ use Rattle.script_desk.specs.plain_state.declared.slot.SlotId.{SlotId}
 use Rattle.script_desk.specs.plain_state.declared.slot.PlainSlot.{PlainSlot}
 use Rattle.script_desk.specs.plain_state.References.{over_slots}
 use Rattle.script_desk.specs.plain_state.State.{new_slot}
-use Rattle.script_desk.proofs.Below.plain_state.Kit.{cases_slot}
+use Rattle.script_desk.proofs.Below.plain_state_Kit.{cases_slot}
 use Rattle.script_desk.specs.heap_audit.Heaps.{slot}
 use Rattle.script_law.specs.Renamings.{IsRenaming}
 

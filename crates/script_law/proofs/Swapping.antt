@@ -6,7 +6,7 @@ use Rattle.script_desk.specs.plain_state.declared.slot.Stage.TheVariants.{Free}
 use Rattle.script_desk.specs.plain_state.Lists.{cell_times, entry_times, times}
 use Rattle.script_desk.specs.plain_state.References.{held_in}
 use Rattle.script_desk.specs.plain_state.State.{seat_at, slot_at, stage_at}
-use Rattle.script_desk.proofs.Below.plain_state.Kit.{cases_slot, held_self, slot_is}
+use Rattle.script_desk.proofs.Below.plain_state_Kit.{cases_slot, held_self, slot_is}
 use Rattle.script_desk.specs.declared.handle.Handle.{Handle}
 use Rattle.script_desk.specs.declared.handle.Handle.TheVariants.{Strong, Weak, Snapshot}
 use Rattle.script_desk.specs.Desks.{Desk, bound, maker_of}

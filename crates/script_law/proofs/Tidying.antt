@@ -15,11 +15,11 @@ use Rattle.script_desk.specs.plain_state.References.{held_in, places}
 use Rattle.script_desk.specs.plain_state.Sound.{Sound}
 use Rattle.script_desk.specs.plain_state.State.{Plain, PlainSeat, new_seat, seat_at, slot_at, stage_at, with_seat, with_slot}
 use Rattle.script_desk.specs.plain_state.Steps.{Does, joined}
-use Rattle.script_desk.proofs.Below.plain_state.Changes.{IsThere, field_object, place_change}
-use Rattle.script_desk.proofs.Below.plain_state.EveryStep.{step_sound}
-use Rattle.script_desk.proofs.Below.plain_state.Kit.{held_none, of_kind, times_lost}
-use Rattle.script_desk.proofs.Below.plain_state.SeatRows.{is_there}
-use Rattle.script_desk.proofs.Below.plain_state.SlotRows.{dying_ended}
+use Rattle.script_desk.proofs.Below.plain_state_Changes.{IsThere, field_object, place_change}
+use Rattle.script_desk.proofs.Below.plain_state_EveryStep.{step_sound}
+use Rattle.script_desk.proofs.Below.plain_state_Kit.{held_none, of_kind, times_lost}
+use Rattle.script_desk.proofs.Below.plain_state_SeatRows.{is_there}
+use Rattle.script_desk.proofs.Below.plain_state_SlotRows.{dying_ended}
 use Rattle.script_desk.specs.plain_settling.Settling.{Tidies, TidiesBy}
 use Rattle.script_law.proofs.Fates.{Balanced, KeepsLists, KeepsSlots, Tidying, balanced_clear, balanced_eject, balanced_same, ended_fate, places_stay, seat_is, seat_places, seats_stay, slots_written, there}
 

@@ -12,8 +12,8 @@ use Rattle.script_desk.specs.plain_state.Lists.{cell_times, entry_times, times}
 use Rattle.script_desk.specs.plain_state.References.{held_in, snapshot_times, strong_fields, strong_refs, weak_fields, weak_refs}
 use Rattle.script_desk.specs.plain_state.Sound.{Sound}
 use Rattle.script_desk.specs.plain_state.State.{Plain, new_slot, seat_at, slot_at, stage_at}
-use Rattle.script_desk.proofs.Below.plain_state.Kit.{held_none, none_by, slots_at}
-use Rattle.script_desk.proofs.Below.plain_audit.Numbers.{seat_alone}
+use Rattle.script_desk.proofs.Below.plain_state_Kit.{held_none, none_by, slots_at}
+use Rattle.script_desk.proofs.Below.plain_audit_Numbers.{seat_alone}
 use Rattle.script_law.specs.Orderly.{IsQuiet}
 
 module _ (p : Plain) (so : Sound p) (one : length p.seats ≡ 1) (quiet : IsQuiet p) (s : SlotId) (free : stage_at p s ≡ Free) where

@@ -10,4 +10,4 @@ pub mod Renamings
 pub mod States
 pub mod Desks
 pub mod Orderly
-pub mod Said
+pub mod SaidAlike

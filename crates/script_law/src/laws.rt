@@ -14,7 +14,7 @@ ghost use Rattle.script_desk.specs.Faults.{IsFault, IsFaultless};
 ghost use Rattle.script_law.specs.Desks.{Alike};
 ghost use Rattle.script_law.specs.Orderly.{IsFresh, IsOrderly};
 ghost use Rattle.script_law.specs.Renamings.{IsRenaming};
-ghost use Rattle.script_law.specs.Said.{SaidAlike};
+ghost use Rattle.script_law.specs.SaidAlike.{SaidAlike};
 ghost use Rattle.script_law.specs.States.{StatesAlike};
 
 /// A desk is alike to itself; what is alike to it is so the other way round; and what is alike to that is alike to it.

@@ -20,19 +20,19 @@ use Rattle.claim_law.specs.core_events.Runs.{Core, view_at}
 use Rattle.claim_law.specs.core_events.Shows.{show_seat}
 use Rattle.claim_law.specs.core_events.Views.{about, held_times, slot_of}
 use Rattle.claim_law.specs.core_law.Sound.{Sound}
-use Rattle.claim_law.proofs.Below.core_law.Held.{held_taken}
-use Rattle.claim_law.proofs.Below.core_law.Kit.{one_same, total_at}
-use Rattle.claim_law.proofs.Below.core_law.Parts.{sound_good}
-use Rattle.retiring_stores.proofs.Below.domain_rule.Others.{has_there}
+use Rattle.claim_law.proofs.Below.core_law_Held.{held_taken}
+use Rattle.claim_law.proofs.Below.core_law_Kit.{one_same, total_at}
+use Rattle.claim_law.proofs.Below.core_law_Parts.{sound_good}
+use Rattle.retiring_stores.proofs.Below.domain_rule_Others.{has_there}
 use Rattle.retiring_stores.specs.acquire_retire.Calls.{IsOf, IsSameView, Steps, same_view}
 use Rattle.retiring_stores.specs.acquire_retire.Collecting.{move}
 use Rattle.retiring_stores.specs.acquire_retire.Domains.{DomainState}
 use Rattle.retiring_stores.specs.acquire_retire.Seats.{SeatState}
 use Rattle.retiring_stores.specs.control_word.Resting.{IsAtRest}
-use Rattle.retiring_stores.proofs.Below.control_word.Becoming.{Comes, bare, comes_more, comes_one, walks_table}
+use Rattle.retiring_stores.proofs.Below.control_word_Becoming.{Comes, bare, comes_more, comes_one, walks_table}
 use Rattle.slot_store.specs.Calls.{Begins, Fills, begun_by, filled_by, with_blank}
 use Rattle.slot_store.specs.Searching.{Claims, taken_by, with_bare}
-use Rattle.retiring_stores.proofs.Below.control_word.Finding.{sound_before}
+use Rattle.retiring_stores.proofs.Below.control_word_Finding.{sound_before}
 use Rattle.slot_store.proofs.Claims.{comes_of, goes_of}
 
 none_held : (x : SlotId) → held_in x None ≡ 0

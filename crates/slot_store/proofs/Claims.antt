@@ -18,7 +18,7 @@ use Rattle.retiring_stores.specs.acquire_retire.Calls.{IsSameView, Steps, same_v
 use Rattle.retiring_stores.specs.acquire_retire.Collecting.{move}
 use Rattle.retiring_stores.specs.acquire_retire.Domains.{DomainState}
 use Rattle.retiring_stores.specs.acquire_retire.Seats.{SeatState}
-use Rattle.retiring_stores.proofs.Below.control_word.Becoming.{Comes, bare, comes_one}
+use Rattle.retiring_stores.proofs.Below.control_word_Becoming.{Comes, bare, comes_one}
 use Rattle.slot_store.specs.Searching.{Goes, with_bare}
 use Rattle.slot_store.proofs.Tries.{append_nil}
 

@@ -20,9 +20,9 @@ use Rattle.claim_law.specs.core_events.Shows.{shows}
 use Rattle.claim_law.specs.core_events.Words.{cell_at, field_at, slot_in}
 use Rattle.deleter.specs.counter_word.Words.{has_help, value}
 use Rattle.claim_law.specs.core_law.Sound.{Sound}
-use Rattle.claim_law.proofs.Below.core_law.Kit.{below_none, entry_none, slot_eq, times_none}
-use Rattle.claim_law.proofs.Below.core_law.Parts.{sound_good}
-use Rattle.claim_law.proofs.Below.core_law.Bridge.{shown_past, shown_slot, shown_stage, total_zero}
+use Rattle.claim_law.proofs.Below.core_law_Kit.{below_none, entry_none, slot_eq, times_none}
+use Rattle.claim_law.proofs.Below.core_law_Parts.{sound_good}
+use Rattle.claim_law.proofs.Below.core_law_Bridge.{shown_past, shown_slot, shown_stage, total_zero}
 use Rattle.slot_store.specs.Leftovers.{RefersTo}
 
 below_find : (n : ℕ) (f : ℕ → ℕ) → 0 < sum_below n f → (i : ℕ) × (i < n) × (0 < f i)

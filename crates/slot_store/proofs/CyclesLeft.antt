@@ -15,8 +15,8 @@ use Rattle.claim_law.specs.core_events.Runs.{Core, view_at}
 use Rattle.claim_law.specs.core_events.Shows.{shows}
 use Rattle.claim_law.specs.core_events.Views.{snapshots}
 use Rattle.claim_law.specs.core_events.Words.{cell_at, slot_in}
-use Rattle.claim_law.proofs.Below.core_law.Each.{get_each}
-use Rattle.claim_law.proofs.Below.core_law.Kit.{entry_cons, entry_none, entry_one, kind_one, one_same}
+use Rattle.claim_law.proofs.Below.core_law_Each.{get_each}
+use Rattle.claim_law.proofs.Below.core_law_Kit.{entry_cons, entry_none, entry_one, kind_one, one_same}
 use Rattle.retiring_stores.specs.domain_rule.declared.view.Whole.{Whole}
 use Rattle.retiring_stores.specs.domain_rule.Views.{core_in}
 use Rattle.retiring_stores.specs.acquire_retire.Domains.{DomainState}

@@ -19,8 +19,8 @@ use Rattle.retiring_stores.specs.domain_rule.Views.{object_in}
 use Rattle.retiring_stores.specs.acquire_retire.Domains.{DomainState}
 use Rattle.retiring_stores.specs.acquire_retire.Seats.{SeatState}
 use Rattle.retiring_stores.specs.control_word.Resting.{IsAtRest}
-use Rattle.retiring_stores.proofs.Below.control_word.Becoming.{calling, rests_on}
-use Rattle.retiring_stores.proofs.Below.control_word.Following.{give_keeps}
+use Rattle.retiring_stores.proofs.Below.control_word_Becoming.{calling, rests_on}
+use Rattle.retiring_stores.proofs.Below.control_word_Following.{give_keeps}
 use Rattle.slot_store.specs.Reaping.{Destroys, KnowsBoth}
 use Rattle.slot_store.proofs.Passing.{has_listed, listed_has}
 

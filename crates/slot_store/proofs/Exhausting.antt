@@ -19,7 +19,7 @@ use Rattle.retiring_stores.specs.acquire_retire.Collecting.{Walks, move}
 use Rattle.retiring_stores.specs.acquire_retire.Domains.{DomainState}
 use Rattle.retiring_stores.specs.acquire_retire.Seats.{SeatState}
 use Rattle.retiring_stores.specs.control_word.Resting.{IsAtRest}
-use Rattle.retiring_stores.proofs.Below.control_word.Finding.{seat_there}
+use Rattle.retiring_stores.proofs.Below.control_word_Finding.{seat_there}
 use Rattle.slot_store.specs.Searching.{IsShownTaken, Misses, Try, taken_by}
 
 -- a seat of a state that has a history has this view

@@ -18,18 +18,18 @@ use Rattle.claim_law.specs.core_events.Shows.{show_seat}
 use Rattle.claim_law.specs.core_events.ShownSteps.{on_slot}
 use Rattle.claim_law.specs.core_events.Views.{slot_of}
 use Rattle.claim_law.specs.core_events.Words.{each_from}
-use Rattle.claim_law.proofs.Below.core_law.Lists.{each_push}
+use Rattle.claim_law.proofs.Below.core_law_Lists.{each_push}
 use Rattle.retiring_stores.specs.domain_rule.Told.{changed_object}
 use Rattle.retiring_stores.specs.domain_rule.Views.{object_in}
-use Rattle.retiring_stores.proofs.Below.domain_rule.Others.{fills_has}
+use Rattle.retiring_stores.proofs.Below.domain_rule_Others.{fills_has}
 use Rattle.retiring_stores.specs.acquire_retire.Calls.{IsSameView, IsOf, Steps, same_view}
 use Rattle.retiring_stores.specs.acquire_retire.Collecting.{move}
 use Rattle.retiring_stores.specs.acquire_retire.Domains.{DomainState}
 use Rattle.retiring_stores.specs.acquire_retire.Seats.{SeatState}
-use Rattle.retiring_stores.proofs.Below.acquire_retire.Images.{all_each}
-use Rattle.retiring_stores.proofs.Below.acquire_retire.Makes.{fill_more}
+use Rattle.retiring_stores.proofs.Below.acquire_retire_Images.{all_each}
+use Rattle.retiring_stores.proofs.Below.acquire_retire_Makes.{fill_more}
 use Rattle.retiring_stores.specs.control_word.Moves.{Becomes}
-use Rattle.retiring_stores.proofs.Below.control_word.Becoming.{bare, more_steps, one_step}
+use Rattle.retiring_stores.proofs.Below.control_word_Becoming.{bare, more_steps, one_step}
 use Rattle.slot_store.specs.Calls.{Fills}
 use Rattle.slot_store.proofs.Tries.{append_nil}
 

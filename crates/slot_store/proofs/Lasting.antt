@@ -21,7 +21,7 @@ use Rattle.claim_law.specs.core_events.Words.{each_from}
 use Rattle.claim_law.specs.core_law.Sound.{Sound}
 use Rattle.claim_law.specs.core_promises.Destroyed.{destroys, standing}
 use Rattle.retiring_stores.specs.domain_rule.Rule.{IsTrueOf}
-use Rattle.retiring_stores.proofs.Below.domain_rule.Objects.{object_at}
+use Rattle.retiring_stores.proofs.Below.domain_rule_Objects.{object_at}
 use Rattle.retiring_stores.specs.acquire_retire.declared.payment.Payment.{Payment}
 use Rattle.retiring_stores.specs.acquire_retire.declared.payment.Payment.TheVariants as payment
 use Rattle.retiring_stores.specs.acquire_retire.Calls.{Steps}
@@ -29,7 +29,7 @@ use Rattle.retiring_stores.specs.acquire_retire.Collecting.{Walks, move, paid_by
 use Rattle.retiring_stores.specs.acquire_retire.Domains.{DomainState}
 use Rattle.retiring_stores.specs.acquire_retire.Seats.{SeatState}
 use Rattle.retiring_stores.specs.acquire_retire.Wholes.{known_core}
-use Rattle.retiring_stores.proofs.Below.control_word.Finding.{seat_there, sound_before}
+use Rattle.retiring_stores.proofs.Below.control_word_Finding.{seat_there, sound_before}
 use Rattle.retiring_stores.specs.Scanning.{Collected}
 use Rattle.slot_store.specs.Reaping.{KnowsBoth, seen_by}
 use Rattle.slot_store.specs.Settling.{objects_known}

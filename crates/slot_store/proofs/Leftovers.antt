@@ -6,7 +6,7 @@ use Rattle.protocol_pairs.specs.plain_state.declared.slot.Kind.TheVariants.{Disp
 use Rattle.protocol_pairs.specs.plain_state.declared.slot.SlotId.{SlotId}
 use Rattle.protocol_pairs.specs.plain_state.Ejection.{kept}
 use Rattle.protocol_pairs.specs.plain_state.Lists.{entry_times}
-use Rattle.deleter.proofs.Below.plain_state.Ejections.{kept_times}
+use Rattle.deleter.proofs.Below.plain_state_Ejections.{kept_times}
 use Rattle.claim_law.specs.announce_slots.Seen.{announced_in}
 use Rattle.claim_law.specs.core_events.declared.view.CoreView.{CoreView}
 use Rattle.claim_law.specs.core_events.Views.{snapshots, valid_of}

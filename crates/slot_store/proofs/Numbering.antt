@@ -20,7 +20,7 @@ use Rattle.claim_law.specs.core_events.declared.view.CoreView.{CoreView}
 use Rattle.claim_law.specs.core_events.declared.view.Move.{Move}
 use Rattle.claim_law.specs.core_events.Steps.{answer, changed}
 use Rattle.claim_law.specs.core_events.Words.{announcements}
-use Rattle.claim_law.proofs.Below.core_law.Trails.{changed_trail}
+use Rattle.claim_law.proofs.Below.core_law_Trails.{changed_trail}
 use Rattle.retiring_stores.specs.acquire_retire.declared.payment.Payment.{Payment}
 use Rattle.retiring_stores.specs.acquire_retire.declared.payment.Payment.TheVariants as payment
 use Rattle.retiring_stores.specs.acquire_retire.Calls.{IsSameView, Steps, same_view}

@@ -22,21 +22,21 @@ use Rattle.claim_law.specs.core_events.Shows.{show_slot, shows}
 use Rattle.claim_law.specs.core_events.ShownSteps.{shown_act, shown_number}
 use Rattle.claim_law.specs.core_events.Steps.{May}
 use Rattle.claim_law.specs.core_events.Views.{Terms}
-use Rattle.claim_law.proofs.Below.core_law.Each.{length_each}
+use Rattle.claim_law.proofs.Below.core_law_Each.{length_each}
 use Rattle.claim_law.specs.core_law.Sound.{Sound}
-use Rattle.claim_law.proofs.Below.core_law.Always.{history_sound}
+use Rattle.claim_law.proofs.Below.core_law_Always.{history_sound}
 use Rattle.claim_law.specs.core_promises.Destroyed.{destroys, standing}
-use Rattle.claim_law.proofs.Below.core_promises.Destroys.{destroyed_once}
-use Rattle.claim_law.proofs.Below.core_law.Bridge.{shown_slot}
-use Rattle.claim_law.proofs.Below.core_law.Events.{event_shows}
+use Rattle.claim_law.proofs.Below.core_promises_Destroys.{destroyed_once}
+use Rattle.claim_law.proofs.Below.core_law_Bridge.{shown_slot}
+use Rattle.claim_law.proofs.Below.core_law_Events.{event_shows}
 use Rattle.retiring_stores.specs.domain_rule.declared.view.SeatView.{SeatView}
 use Rattle.retiring_stores.specs.domain_rule.declared.view.Whole.{Whole}
 use Rattle.retiring_stores.specs.domain_rule.Told.{Told}
 use Rattle.retiring_stores.specs.domain_rule.Views.{core_in, whole_of}
-use Rattle.retiring_stores.proofs.Below.domain_rule.Acts.{act_leaves}
-use Rattle.retiring_stores.proofs.Below.domain_rule.Objects.{object_at, object_changes}
+use Rattle.retiring_stores.proofs.Below.domain_rule_Acts.{act_leaves}
+use Rattle.retiring_stores.proofs.Below.domain_rule_Objects.{object_at, object_changes}
 use Rattle.retiring_stores.specs.acquire_retire.Wholes.{core_known, known_core}
-use Rattle.retiring_stores.proofs.Below.control_word.Finding.{sound_before}
+use Rattle.retiring_stores.proofs.Below.control_word_Finding.{sound_before}
 
 pub standing_most : (g : Stage) → standing g ≤ 1
 standing_most Free = omega arith

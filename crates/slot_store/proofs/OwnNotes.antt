@@ -9,7 +9,7 @@ use Rattle.protocol_pairs.specs.plain_state.declared.slot.SlotId.{SlotId}
 use Rattle.protocol_pairs.specs.plain_state.Lists.{entry_times}
 use Rattle.claim_law.specs.announce_slots.Seen.{announced_in}
 use Rattle.claim_law.specs.announce_slots.Words.{code}
-use Rattle.claim_law.proofs.Below.announce_slots.Counting.{seen_cons, seen_none, word_one, word_other, word_same}
+use Rattle.claim_law.proofs.Below.announce_slots_Counting.{seen_cons, seen_none, word_one, word_other, word_same}
 use Rattle.claim_law.specs.core_events.declared.act.Act.TheVariants as act
 use Rattle.claim_law.specs.core_events.declared.outcome.Outcome.{Outcome}
 use Rattle.claim_law.specs.core_events.declared.shape.Shape.{Shape}
@@ -21,13 +21,13 @@ use Rattle.claim_law.specs.core_events.Good.{SeatLaw, word_of_note}
 use Rattle.claim_law.specs.core_events.Runs.{view_at}
 use Rattle.claim_law.specs.core_events.Steps.{is_last, scanned}
 use Rattle.claim_law.specs.core_events.Views.{note_of, valid_of}
-use Rattle.claim_law.proofs.Below.core_law.Kit.{entry_cons, entry_one, one_same}
+use Rattle.claim_law.proofs.Below.core_law_Kit.{entry_cons, entry_one, one_same}
 use Rattle.retiring_stores.specs.acquire_retire.Calls.{IsSameView, Steps, same_view}
 use Rattle.retiring_stores.specs.acquire_retire.Collecting.{Walks, scanned_by}
 use Rattle.retiring_stores.specs.acquire_retire.Domains.{DomainState}
 use Rattle.retiring_stores.specs.acquire_retire.Seats.{SeatState}
 use Rattle.retiring_stores.specs.control_word.Resting.{IsSettled}
-use Rattle.retiring_stores.proofs.Below.control_word.Finding.{seat_there, sound_before}
+use Rattle.retiring_stores.proofs.Below.control_word_Finding.{seat_there, sound_before}
 use Rattle.slot_store.proofs.Objects.{known_still, some_value}
 use Rattle.slot_store.proofs.Ripening.{split_read, word_read}
 

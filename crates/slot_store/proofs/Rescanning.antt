@@ -7,10 +7,10 @@ use Rattle.protocol_pairs.specs.plain_state.declared.slot.Kind.TheVariants.{Stro
 use Rattle.protocol_pairs.specs.plain_state.declared.slot.SlotId.{SlotId}
 use Rattle.protocol_pairs.specs.plain_state.Ejection.{Announcements, ejected, kept, ripened}
 use Rattle.protocol_pairs.specs.plain_state.Lists.{Entry, entry_times}
-use Rattle.deleter.proofs.Below.plain_state.Ejections.{kept_times, split_times}
+use Rattle.deleter.proofs.Below.plain_state_Ejections.{kept_times, split_times}
 use Rattle.claim_law.specs.announce_slots.Seen.{announced_in}
 use Rattle.claim_law.specs.core_events.declared.view.CoreView.{CoreView}
-use Rattle.claim_law.proofs.Below.core_law.Kit.{entry_cons, kind_one, one_same}
+use Rattle.claim_law.proofs.Below.core_law_Kit.{entry_cons, kind_one, one_same}
 use Rattle.retiring_stores.specs.acquire_retire.Domains.{DomainState}
 use Rattle.retiring_stores.specs.acquire_retire.Seats.{SeatState}
 use Rattle.retiring_stores.specs.control_word.Resting.{IsAtRest}

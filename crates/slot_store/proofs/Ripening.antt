@@ -16,14 +16,14 @@ use Rattle.claim_law.specs.core_events.declared.view.Move.{Move}
 use Rattle.claim_law.specs.core_events.declared.view.Phase.TheVariants as phase
 use Rattle.claim_law.specs.core_events.Good.{SeatLaw}
 use Rattle.claim_law.specs.core_events.Steps.{all_seen, is_last}
-use Rattle.claim_law.proofs.Below.core_law.Kit.{one_same, times_cons, times_none}
-use Rattle.claim_law.proofs.Below.core_law.Ripening.{ripened_times}
+use Rattle.claim_law.proofs.Below.core_law_Kit.{one_same, times_cons, times_none}
+use Rattle.claim_law.proofs.Below.core_law_Ripening.{ripened_times}
 use Rattle.retiring_stores.specs.acquire_retire.Calls.{IsSameView, Steps, same_view}
 use Rattle.retiring_stores.specs.acquire_retire.Collecting.{Walks, paid_by, scanned_by}
 use Rattle.retiring_stores.specs.acquire_retire.Domains.{DomainState}
 use Rattle.retiring_stores.specs.acquire_retire.Seats.{SeatState}
 use Rattle.retiring_stores.specs.control_word.Resting.{IsAtRest}
-use Rattle.retiring_stores.proofs.Below.control_word.Finding.{seat_there, sound_before}
+use Rattle.retiring_stores.proofs.Below.control_word_Finding.{seat_there, sound_before}
 use Rattle.retiring_stores.specs.Scanning.{Collected}
 use Rattle.retiring_stores.proofs.Gathering.{pays_gather, walk_stays}
 use Rattle.slot_store.specs.Reaping.{FindsRipe, Waits}

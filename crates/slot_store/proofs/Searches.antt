@@ -10,13 +10,13 @@ use Rattle.claim_law.specs.core_events.declared.outcome.Outcome.TheVariants as o
 use Rattle.claim_law.specs.core_events.declared.view.CoreView.{CoreView}
 use Rattle.claim_law.specs.core_events.Steps.{HasAdd, HasMake, May}
 use Rattle.claim_law.specs.core_events.Words.{bit_in}
-use Rattle.claim_law.proofs.Below.core_law.Kit.{slot_eq}
+use Rattle.claim_law.proofs.Below.core_law_Kit.{slot_eq}
 use Rattle.retiring_stores.specs.acquire_retire.Calls.{IsSameView, Steps, same_view}
 use Rattle.retiring_stores.specs.acquire_retire.Collecting.{move}
 use Rattle.retiring_stores.specs.acquire_retire.Domains.{DomainState}
 use Rattle.retiring_stores.specs.acquire_retire.Seats.{SeatState}
 use Rattle.retiring_stores.specs.control_word.Resting.{IsAtRest}
-use Rattle.retiring_stores.proofs.Below.control_word.Becoming.{comes_more, rest_after}
+use Rattle.retiring_stores.proofs.Below.control_word_Becoming.{comes_more, rest_after}
 use Rattle.slot_store.specs.Searching.{AreInTurn, Claims, Goes, IsNext, IsShownTaken, Misses, Try, bits_of, latest, taken_by, with_bare}
 use Rattle.slot_store.specs.Turns.{IsAtTurn, newest}
 use Rattle.slot_store.proofs.Claims.{claim_missed, claim_won, comes_of, goes_nowhere, goes_of}

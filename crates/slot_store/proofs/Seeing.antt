@@ -11,8 +11,8 @@ use Rattle.claim_law.specs.core_events.declared.outcome.Outcome.TheVariants as o
 use Rattle.claim_law.specs.core_events.Shows.{shows}
 use Rattle.claim_law.specs.core_events.Views.{Holds}
 use Rattle.claim_law.specs.core_events.Words.{payload_at}
-use Rattle.claim_law.proofs.Below.core_law.Each.{get_each}
-use Rattle.claim_law.proofs.Below.core_law.Bridge.{shown_slot}
+use Rattle.claim_law.proofs.Below.core_law_Each.{get_each}
+use Rattle.claim_law.proofs.Below.core_law_Bridge.{shown_slot}
 use Rattle.retiring_stores.specs.domain_rule.Views.{object_in}
 use Rattle.retiring_stores.specs.acquire_retire.Calls.{IsSameView, Steps, same_view}
 use Rattle.retiring_stores.specs.acquire_retire.Collecting.{move}
@@ -20,7 +20,7 @@ use Rattle.retiring_stores.specs.acquire_retire.Domains.{DomainState}
 use Rattle.retiring_stores.specs.acquire_retire.Seats.{SeatState}
 use Rattle.retiring_stores.specs.control_word.Moves.{Becomes, KnowsStill}
 use Rattle.retiring_stores.specs.control_word.Resting.{IsAtRest}
-use Rattle.retiring_stores.proofs.Below.control_word.Becoming.{knows_after, one_step, rest_after}
+use Rattle.retiring_stores.proofs.Below.control_word_Becoming.{knows_after, one_step, rest_after}
 use Rattle.slot_store.specs.Calls.{SeesWord}
 use Rattle.slot_store.proofs.Telling.{holds_has, slot_there}
 

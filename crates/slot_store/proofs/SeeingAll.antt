@@ -18,22 +18,22 @@ use Rattle.claim_law.specs.core_events.declared.view.Move.{Move}
 use Rattle.claim_law.specs.core_events.Shows.{show_seat, shows}
 use Rattle.claim_law.specs.core_events.Steps.{HasRoom, May}
 use Rattle.claim_law.specs.core_events.Words.{each_from, payload_at}
-use Rattle.claim_law.proofs.Below.core_law.Each.{get_each}
-use Rattle.claim_law.proofs.Below.core_law.Kit.{total_at}
-use Rattle.claim_law.proofs.Below.core_law.Bridge.{shown_dying, shown_slot}
-use Rattle.claim_law.proofs.Below.core_law.Lawful.{shows_lawful}
-use Rattle.claim_law.proofs.Below.core_law.Lists.{each_push}
+use Rattle.claim_law.proofs.Below.core_law_Each.{get_each}
+use Rattle.claim_law.proofs.Below.core_law_Kit.{total_at}
+use Rattle.claim_law.proofs.Below.core_law_Bridge.{shown_dying, shown_slot}
+use Rattle.claim_law.proofs.Below.core_law_Lawful.{shows_lawful}
+use Rattle.claim_law.proofs.Below.core_law_Lists.{each_push}
 use Rattle.retiring_stores.specs.domain_rule.Views.{object_in}
 use Rattle.retiring_stores.specs.acquire_retire.Calls.{IsSameView, Steps, same_view}
 use Rattle.retiring_stores.specs.acquire_retire.Collecting.{move, rest_of}
 use Rattle.retiring_stores.specs.acquire_retire.Domains.{DomainState}
 use Rattle.retiring_stores.specs.acquire_retire.Seats.{SeatState}
-use Rattle.retiring_stores.proofs.Below.acquire_retire.Images.{all_each}
+use Rattle.retiring_stores.proofs.Below.acquire_retire_Images.{all_each}
 use Rattle.retiring_stores.specs.control_word.Resting.{IsAtRest}
-use Rattle.retiring_stores.proofs.Below.control_word.Becoming.{Comes, bare, comes_more, comes_one, rest_after}
+use Rattle.retiring_stores.proofs.Below.control_word_Becoming.{Comes, bare, comes_more, comes_one, rest_after}
 use Rattle.slot_store.specs.Reaping.{Passes, SeesAll}
 use Rattle.slot_store.specs.Searching.{Goes}
-use Rattle.retiring_stores.proofs.Below.control_word.Finding.{sound_before}
+use Rattle.retiring_stores.proofs.Below.control_word_Finding.{sound_before}
 use Rattle.slot_store.proofs.Telling.{slot_there}
 use Rattle.slot_store.proofs.Claims.{comes_of, goes_nowhere, goes_of}
 

@@ -12,7 +12,7 @@ use Rattle.claim_law.specs.core_events.Shows.{show_seat}
 use Rattle.claim_law.specs.core_events.ShownSteps.{on_slot}
 use Rattle.claim_law.specs.core_events.Views.{slot_of}
 use Rattle.retiring_stores.specs.domain_rule.Views.{object_in, own_of}
-use Rattle.retiring_stores.proofs.Below.domain_rule.Others.{fills_has}
+use Rattle.retiring_stores.proofs.Below.domain_rule_Others.{fills_has}
 use Rattle.retiring_stores.specs.acquire_retire.Calls.{IsReady}
 use Rattle.retiring_stores.specs.acquire_retire.Domains.{DomainState}
 use Rattle.retiring_stores.specs.acquire_retire.Seats.{SeatState}

@@ -11,11 +11,11 @@ use Rattle.claim_law.specs.core_events.Counts.{stage}
 use Rattle.claim_law.specs.core_events.Runs.{Core, view_at}
 use Rattle.claim_law.specs.core_events.Views.{no_view}
 use Rattle.claim_law.specs.core_events.Words.{announcements}
-use Rattle.claim_law.proofs.Below.core_law.Kit.{below_at, one_same, times_cons, times_none, total_at}
-use Rattle.claim_law.proofs.Below.core_law.Steady.{named_in_range}
+use Rattle.claim_law.proofs.Below.core_law_Kit.{below_at, one_same, times_cons, times_none, total_at}
+use Rattle.claim_law.proofs.Below.core_law_Steady.{named_in_range}
 use Rattle.claim_law.specs.core_promises.Destroyed.{standing}
-use Rattle.claim_law.proofs.Below.core_law.Bridge.{shown_dying, shown_stage}
-use Rattle.claim_law.proofs.Below.core_law.Lawful.{shows_lawful}
+use Rattle.claim_law.proofs.Below.core_law_Bridge.{shown_dying, shown_stage}
+use Rattle.claim_law.proofs.Below.core_law_Lawful.{shows_lawful}
 use Rattle.retiring_stores.specs.acquire_retire.Domains.{DomainState}
 use Rattle.retiring_stores.specs.acquire_retire.Seats.{SeatState}
 use Rattle.retiring_stores.specs.acquire_retire.Wholes.{known_core}

@@ -20,14 +20,14 @@ use Rattle.claim_law.specs.core_events.ShownSteps.{on_slot}
 use Rattle.claim_law.specs.core_events.Views.{alone, slot_of}
 use Rattle.retiring_stores.specs.domain_rule.Told.{changed_object}
 use Rattle.retiring_stores.specs.domain_rule.Views.{object_in}
-use Rattle.retiring_stores.proofs.Below.domain_rule.Others.{fills_has}
+use Rattle.retiring_stores.proofs.Below.domain_rule_Others.{fills_has}
 use Rattle.retiring_stores.specs.acquire_retire.Calls.{IsSameView, Steps, same_view}
 use Rattle.retiring_stores.specs.acquire_retire.Collecting.{move}
 use Rattle.retiring_stores.specs.acquire_retire.Domains.{DomainState}
 use Rattle.retiring_stores.specs.acquire_retire.Seats.{SeatState}
 use Rattle.retiring_stores.specs.control_word.Moves.{Becomes, KnowsStill}
 use Rattle.retiring_stores.specs.control_word.Resting.{IsAtRest}
-use Rattle.retiring_stores.proofs.Below.control_word.Becoming.{bare, calling, one_step, rests_on, walks_table}
+use Rattle.retiring_stores.proofs.Below.control_word_Becoming.{bare, calling, one_step, rests_on, walks_table}
 use Rattle.slot_store.specs.Calls.{Begins, Makes, begun_by, with_made}
 use Rattle.slot_store.proofs.Beginning.{has_while}
 

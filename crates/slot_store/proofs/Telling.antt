@@ -12,8 +12,8 @@ use Rattle.claim_law.specs.core_events.Shows.{show_seat}
 use Rattle.claim_law.specs.core_events.Views.{Holds, Terms}
 use Rattle.retiring_stores.specs.domain_rule.declared.view.SeatView.{SeatView}
 use Rattle.retiring_stores.specs.domain_rule.Told.{Told}
-use Rattle.retiring_stores.proofs.Below.domain_rule.Others.{has_there}
-use Rattle.retiring_stores.proofs.Below.control_word.Finding.{sound_before}
+use Rattle.retiring_stores.proofs.Below.domain_rule_Others.{has_there}
+use Rattle.retiring_stores.proofs.Below.control_word_Finding.{sound_before}
 
 -- what a seat holds is a slot of its own part
 pub holds_has : (v : CoreView) (s : SlotId) → Holds v s → HasSlot (show_seat v) s

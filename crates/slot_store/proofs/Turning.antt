@@ -15,7 +15,7 @@ use Rattle.claim_law.specs.core_events.declared.outcome.Outcome.{Outcome}
 use Rattle.claim_law.specs.core_events.declared.outcome.Outcome.TheVariants as outcome
 use Rattle.claim_law.specs.core_events.declared.view.CoreView.{CoreView}
 use Rattle.claim_law.specs.core_events.Steps.{May}
-use Rattle.claim_law.proofs.Below.core_law.Kit.{one_same, times_cons, times_none}
+use Rattle.claim_law.proofs.Below.core_law_Kit.{one_same, times_cons, times_none}
 use Rattle.retiring_stores.specs.acquire_retire.Calls.{IsSameView, Steps, same_view}
 use Rattle.retiring_stores.specs.acquire_retire.Domains.{DomainState}
 use Rattle.retiring_stores.specs.acquire_retire.Seats.{SeatState}

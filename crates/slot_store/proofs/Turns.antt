@@ -5,7 +5,7 @@ use Rattle.std.proofs.lemmas.Bool.{cases_lt}
 use Rattle.std.proofs.lemmas.Bool.Decides.{nat_tests}
 use Rattle.protocol_pairs.specs.plain_state.declared.slot.SlotId.{SlotId}
 use Rattle.protocol_pairs.specs.plain_state.Lists.{times}
-use Rattle.claim_law.proofs.Below.core_law.Kit.{one_other, times_cons, times_none}
+use Rattle.claim_law.proofs.Below.core_law_Kit.{one_other, times_cons, times_none}
 use Rattle.slot_store.specs.Searching.{Try, bits_of, latest, tried}
 use Rattle.slot_store.specs.Turns.{IsAtTurn}
 

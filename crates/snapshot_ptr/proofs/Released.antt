@@ -5,7 +5,7 @@ use Rattle.std.proofs.lemmas.Bool.Decides.{nat_tests}
 use Rattle.protected_loads.specs.plain_state.declared.slot.Kind.{Kind}
 use Rattle.protected_loads.specs.plain_state.declared.slot.Kind.TheVariants.{Strong, Weak, Disposal}
 use Rattle.protected_loads.specs.plain_state.declared.slot.SlotId.{SlotId}
-use Rattle.protected_loads.proofs.Below.plain_state.Kit.{entry_loses}
+use Rattle.protected_loads.proofs.Below.plain_state_Kit.{entry_loses}
 use Rattle.protected_loads.specs.plain_protocol.Owns.{HasSlot}
 use Rattle.protected_loads.specs.core_events.declared.act.Act.TheVariants as act
 use Rattle.protected_loads.specs.core_events.declared.outcome.Outcome.{Outcome}
@@ -15,14 +15,14 @@ use Rattle.protected_loads.specs.core_events.declared.view.Note.TheVariants as n
 use Rattle.protected_loads.specs.core_events.Shows.{show_seat}
 use Rattle.protected_loads.specs.core_events.Steps.{IsIdle, with_note}
 use Rattle.protected_loads.specs.core_events.Views.{note_of, valid_of}
-use Rattle.protected_loads.proofs.Below.core_law.Losing.{valid_loses}
+use Rattle.protected_loads.proofs.Below.core_law_Losing.{valid_loses}
 use Rattle.protected_loads.specs.acquire_retire.Calls.{IsSameView, Steps, same_view}
 use Rattle.protected_loads.specs.acquire_retire.Collecting.{move}
 use Rattle.protected_loads.specs.acquire_retire.Domains.{DomainState}
 use Rattle.protected_loads.specs.acquire_retire.Seats.{SeatState}
 use Rattle.protected_loads.specs.control_word.Moves.{Becomes, KnowsStill}
 use Rattle.protected_loads.specs.control_word.Resting.{IsAtRest}
-use Rattle.protected_loads.proofs.Below.control_word.Becoming.{Comes, calling, comes_one}
+use Rattle.protected_loads.proofs.Below.control_word_Becoming.{Comes, calling, comes_one}
 use Rattle.protected_loads.proofs.Noting.{all_settled, beside, release_keeps, rests_noted}
 use Rattle.snapshot_ptr.proofs.Under.{noted_there}
 

@@ -11,7 +11,7 @@ use Rattle.protected_loads.specs.core_events.declared.view.Note.TheVariants as n
 use Rattle.protected_loads.specs.core_events.declared.view.Move.{Move}
 use Rattle.protected_loads.specs.core_events.Steps.{with_note}
 use Rattle.protected_loads.specs.core_events.Views.{note_of}
-use Rattle.protected_loads.proofs.Below.core_law.Kit.{times_push}
+use Rattle.protected_loads.proofs.Below.core_law_Kit.{times_push}
 use Rattle.protected_loads.specs.control_word.Calls.{with_strong}
 use Rattle.protected_loads.specs.References.{with_reference}
 use Rattle.protected_loads.proofs.Noting.{beside}

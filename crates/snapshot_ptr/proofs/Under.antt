@@ -10,7 +10,7 @@ use Rattle.protected_loads.specs.core_events.declared.view.CoreView.{CoreView}
 use Rattle.protected_loads.specs.core_events.declared.view.Note.{Note}
 use Rattle.protected_loads.specs.core_events.declared.view.Note.TheVariants as note
 use Rattle.protected_loads.specs.core_events.Views.{Holds, HoldsStrongly, note_of}
-use Rattle.protected_loads.proofs.Below.core_functions.Snapshots.{snapshot_at}
+use Rattle.protected_loads.proofs.Below.core_functions_Snapshots.{snapshot_at}
 use Rattle.protected_loads.specs.acquire_retire.Notes.{is_free, least_free}
 use Rattle.snapshot_ptr.specs.Handles.{IsHeldBy, IsUnder, Snap}
 

@@ -5,10 +5,10 @@ use Rattle.std.proofs.lemmas.Bool.{cases_eq}
 use Rattle.part_calls.specs.plain_state.declared.slot.SlotId.{SlotId}
 use Rattle.part_calls.specs.plain_state.Lists.{times}
 use Rattle.part_calls.specs.core_events.Views.{without}
-use Rattle.part_calls.proofs.Below.core_law.Kit.{one_other, one_same, slot_eq, times_push, times_without}
+use Rattle.part_calls.proofs.Below.core_law_Kit.{one_other, one_same, slot_eq, times_push, times_without}
 use Rattle.part_calls.specs.domain_rule.Views.{object_in, own_of}
 use Rattle.part_calls.specs.acquire_retire.Seats.{SeatState}
-use Rattle.part_calls.proofs.Below.protected_loads.Telling.{holds_has}
+use Rattle.part_calls.proofs.Below.protected_loads_Telling.{holds_has}
 use Rattle.part_calls.specs.protocol_pairs.Spared.{HasOneOf}
 use Rattle.structure_tests.specs.Ready.{IsLetterIn, View}
 

@@ -6,7 +6,7 @@ use Rattle.weak_intern.specs.directory_law.declared.view.View.{View}
 use Rattle.weak_intern.specs.directory_law.Views.{joined}
 use Rattle.weak_intern.specs.directory_protocol.declared.law.DirectoryLaw.{DirectoryLaw}
 use Rattle.hand_queues.specs.retiring_stores.Leaving.{Leaves}
-use Rattle.part_calls.proofs.Below.retiring_stores.Afterwards.{scan_leaves}
+use Rattle.part_calls.proofs.Below.retiring_stores_Afterwards.{scan_leaves}
 use Rattle.structure_tests.specs.Texts.{HasLeft}
 
 pub left_joined : (fits : List ℕ → Type 0) (d : DomainState DirectoryLaw)

@@ -8,7 +8,7 @@ use Rattle.part_calls.specs.domain_rule.Views.{IsAlone}
 use Rattle.part_calls.specs.acquire_retire.Domains.{DomainState}
 use Rattle.part_calls.specs.acquire_retire.Seats.{SeatState}
 use Rattle.part_calls.specs.control_word.Resting.{IsAtRest}
-use Rattle.part_calls.proofs.Below.control_word.NotedBack.{none_still}
+use Rattle.part_calls.proofs.Below.control_word_NotedBack.{none_still}
 use Rattle.part_calls.specs.Parts.{HasBeside, seen_by}
 use Rattle.hand_queues.specs.queue_law.declared.view.View.{View as QueueView}
 use Rattle.hand_queues.specs.queue_law.Views.{joined}
@@ -20,9 +20,9 @@ use Rattle.hand_queues.specs.double_link_queue.Pushes.{PushesNothing}
 use Rattle.hand_queues.specs.Pushes.{Pushes}
 use Rattle.hand_queues.specs.retiring_stores.Leaving as leaving
 use Rattle.hand_queues.specs.retiring_stores.Scanning.{Collected}
-use Rattle.part_calls.proofs.Below.retiring_stores.Afterwards.{scan_leaves}
+use Rattle.part_calls.proofs.Below.retiring_stores_Afterwards.{scan_leaves}
 use Rattle.part_calls.specs.slot_store.Calls.{SeesWord}
-use Rattle.part_calls.proofs.Below.slot_store.Passing.{passes_collect}
+use Rattle.part_calls.proofs.Below.slot_store_Passing.{passes_collect}
 use Rattle.structure_tests.specs.Ready.{IsFree, IsReady, StandsAs, View}
 
 -- the seat, with what it knows of the queue

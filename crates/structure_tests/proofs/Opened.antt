@@ -3,12 +3,12 @@ use Rattle.std.proofs.Common.{Bool, true, false, List, [], ◌∷◌, ◌++◌, 
 use Rattle.std.specs.Prelude.{◌≡◌, All, slice_index_or, if◌then◌else◌}
 use Rattle.std.proofs.lemmas.List.Elements.{All-push}
 use Rattle.part_calls.specs.core_events.Runs.{IsShape}
-use Rattle.part_calls.proofs.Below.core_law.Each.{get_each, length_each}
+use Rattle.part_calls.proofs.Below.core_law_Each.{get_each, length_each}
 use Rattle.part_calls.specs.acquire_retire.Domains.{DomainState}
 use Rattle.part_calls.specs.acquire_retire.Openings.{begun_seat, opened_seats}
 use Rattle.part_calls.specs.acquire_retire.Seats.{SeatState}
 use Rattle.part_calls.specs.control_word.Resting.{IsUnderNone}
-use Rattle.part_calls.proofs.Below.control_word.Beginning.{all_at_rest}
+use Rattle.part_calls.proofs.Below.control_word_Beginning.{all_at_rest}
 use Rattle.hand_queues.specs.linked_queue.Queues.{CanLay}
 use Rattle.hand_queues.specs.queue_law.Views.{view_of}
 use Rattle.hand_queues.specs.queue_law.declared.view.Form.{Form}

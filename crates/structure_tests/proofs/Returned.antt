@@ -4,7 +4,7 @@ use Rattle.part_calls.specs.plain_state.declared.slot.SlotId.{SlotId}
 use Rattle.part_calls.specs.plain_state.Lists.{times}
 use Rattle.part_calls.specs.core_events.declared.view.CoreView.{CoreView}
 use Rattle.part_calls.specs.core_events.Views.{without}
-use Rattle.part_calls.proofs.Below.core_law.Kit.{one_same, times_push, times_without}
+use Rattle.part_calls.proofs.Below.core_law_Kit.{one_same, times_push, times_without}
 use Rattle.part_calls.specs.control_word.Resting.{IsUnderNone}
 use Rattle.weak_intern.specs.text_reading.Reading.{HasTwoFree}
 

@@ -1,2 +1,3 @@
 -- What callers cite of the proofs below.
-pub use Rattle.cdrc_text.proofs as cdrc_text
+pub use Rattle.cdrc_text.proofs.Listed as cdrc_text_Listed
+pub use Rattle.cdrc_text.proofs.Unique as cdrc_text_Unique

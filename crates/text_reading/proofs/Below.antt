@@ -1,2 +1,2 @@
 -- What callers cite of the proofs below.
-pub use Rattle.snapshot_ptr.proofs as snapshot_ptr
+pub use Rattle.snapshot_ptr.proofs.Under as snapshot_ptr_Under

@@ -15,8 +15,8 @@ use Rattle.slot_store.specs.core_events.Views.{HoldsStrongly, note_of}
 use Rattle.slot_store.specs.acquire_retire.Notes.{least_free}
 use Rattle.slot_store.specs.acquire_retire.Seats.{SeatState}
 use Rattle.slot_store.specs.control_word.Moves.{KnowsStill}
-use Rattle.snapshot_ptr.proofs.Below.protected_loads.Noting.{beside, more_has, more_holds, snapshot_gains, written, written_back}
-use Rattle.snapshot_ptr.proofs.Below.protected_loads.Telling.{holds_has}
+use Rattle.snapshot_ptr.proofs.Below.protected_loads_Noting.{beside, more_has, more_holds, snapshot_gains, written, written_back}
+use Rattle.snapshot_ptr.proofs.Below.protected_loads_Telling.{holds_has}
 use Rattle.snapshot_ptr.specs.Handles.{IsHeldBy}
 use Rattle.snapshot_ptr.proofs.Under.{IsFreeWord, has_strongly, least_is_free}
 use Rattle.directory_calls.specs.directory_law.declared.view.View.{View}

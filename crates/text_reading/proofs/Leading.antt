@@ -15,12 +15,12 @@ use Rattle.slot_store.specs.core_events.declared.act.Act.TheVariants as act
 use Rattle.slot_store.specs.core_events.declared.outcome.Outcome.{Outcome}
 use Rattle.slot_store.specs.core_events.Runs.{after}
 use Rattle.slot_store.specs.core_events.Words.{slot_in}
-use Rattle.slot_store.proofs.Below.core_law.ShownPlaces.{word_slot}
+use Rattle.slot_store.proofs.Below.core_law_ShownPlaces.{word_slot}
 use Rattle.slot_store.specs.acquire_retire.Calls.{IsSameView, Steps, same_view}
 use Rattle.slot_store.specs.acquire_retire.Domains.{DomainState}
 use Rattle.slot_store.specs.acquire_retire.Seats.{SeatState}
 use Rattle.slot_store.specs.control_word.Resting.{IsAtRest}
-use Rattle.snapshot_ptr.proofs.Below.protected_loads.Looking.{Looks}
+use Rattle.snapshot_ptr.proofs.Below.protected_loads_Looking.{Looks}
 use Rattle.directory_calls.specs.directory_law.declared.view.Ran.{Ran}
 use Rattle.directory_calls.specs.directory_law.declared.view.View.{View}
 use Rattle.directory_calls.specs.directory_law.Lessons.{ReadReady, first_ran, lead_next, read_next, reads_part}

@@ -18,7 +18,7 @@ use Rattle.slot_store.specs.acquire_retire.Notes.{is_free, least_free}
 use Rattle.slot_store.specs.acquire_retire.Seats.{SeatState}
 use Rattle.slot_store.specs.control_word.Moves.{KnowsStill}
 use Rattle.slot_store.specs.control_word.Resting.{IsAtRest}
-use Rattle.snapshot_ptr.proofs.Below.protected_loads.Noting.{beside, written, written_back}
+use Rattle.snapshot_ptr.proofs.Below.protected_loads_Noting.{beside, written, written_back}
 use Rattle.snapshot_ptr.specs.Handles.{IsHeldBy}
 use Rattle.snapshot_ptr.proofs.Released.{released}
 use Rattle.snapshot_ptr.proofs.Under.{IsFreeWord}

@@ -6,7 +6,7 @@ use Rattle.std.proofs.lemmas.Bool.{cases_lt}
 use Rattle.directory_calls.specs.directory_law.Payloads.{IsOwn, IsRest, IsText, Text, size}
 use Rattle.directory_calls.specs.directory_law.Views.{Each}
 use Rattle.directory_calls.specs.directory_law.Bytes.{AreBytes, ArePartsOf, bytes_of_words, IsHeadOf, IsPartOf, IsPiece, IsTextOf, Packs, part_bytes, piece_bytes, text_bytes}
-use Rattle.directory_calls.proofs.Below.directory_law.Bytes.{text_tells}
+use Rattle.directory_calls.proofs.Below.directory_law_Bytes.{text_tells}
 use Rattle.text_reading.specs.Reading.{AreBytesOf}
 
 -- a payload tells the bytes that it packs, whatever its word 0 is

@@ -26,15 +26,15 @@ use Rattle.slot_store.specs.domain_rule.Views.{object_in, own_of}
 use Rattle.slot_store.specs.acquire_retire.Calls.{IsOf, IsReady, IsSameView, Steps, same_view}
 use Rattle.slot_store.specs.acquire_retire.Domains.{DomainState}
 use Rattle.slot_store.specs.acquire_retire.Seats.{SeatState}
-use Rattle.slot_store.proofs.Below.acquire_retire.Contents.{check_on, look_on}
+use Rattle.slot_store.proofs.Below.acquire_retire_Contents.{check_on, look_on}
 use Rattle.slot_store.specs.control_word.Moves.{KnowsStill}
 use Rattle.slot_store.specs.control_word.Resting.{IsAtRest}
 use Rattle.snapshot_ptr.specs.protected_loads.Loads.{Announces, Protects, announced_by}
-use Rattle.snapshot_ptr.proofs.Below.protected_loads.Checking.{has_announced, may_check, moved_word}
-use Rattle.snapshot_ptr.proofs.Below.protected_loads.Noting.{announced_not_valid, announced_same}
-use Rattle.snapshot_ptr.proofs.Below.protected_loads.Looking.{Looks, announces, may_announce}
-use Rattle.snapshot_ptr.proofs.Below.protected_loads.Protecting.{holds_snapshot, protected}
-use Rattle.snapshot_ptr.proofs.Below.protected_loads.Telling.{content_found, four_notes, holds_has}
+use Rattle.snapshot_ptr.proofs.Below.protected_loads_Checking.{has_announced, may_check, moved_word}
+use Rattle.snapshot_ptr.proofs.Below.protected_loads_Noting.{announced_not_valid, announced_same}
+use Rattle.snapshot_ptr.proofs.Below.protected_loads_Looking.{Looks, announces, may_announce}
+use Rattle.snapshot_ptr.proofs.Below.protected_loads_Protecting.{holds_snapshot, protected}
+use Rattle.snapshot_ptr.proofs.Below.protected_loads_Telling.{content_found, four_notes, holds_has}
 use Rattle.directory_calls.specs.directory_law.declared.view.Led.{Led}
 use Rattle.directory_calls.specs.directory_law.declared.view.Ran.{Ran}
 use Rattle.directory_calls.specs.directory_law.declared.view.View.{View}

@@ -10,7 +10,7 @@ use Rattle.slot_store.specs.core_events.Steps.{HasRoom}
 use Rattle.slot_store.specs.acquire_retire.Domains.{DomainState}
 use Rattle.slot_store.specs.acquire_retire.Seats.{SeatState}
 use Rattle.slot_store.specs.control_word.Moves.{KnowsStill}
-use Rattle.snapshot_ptr.proofs.Below.protected_loads.Telling.{holds_has}
+use Rattle.snapshot_ptr.proofs.Below.protected_loads_Telling.{holds_has}
 use Rattle.directory_calls.specs.directory_law.Payloads.{Text}
 use Rattle.directory_calls.specs.Steps.{Leaves}
 use Rattle.directory_calls.proofs.Going.{leaves_core}

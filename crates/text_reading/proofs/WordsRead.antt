@@ -11,15 +11,15 @@ use Rattle.slot_store.specs.core_events.declared.view.CoreView.{CoreView}
 use Rattle.slot_store.specs.core_events.declared.view.Move.{Move}
 use Rattle.slot_store.specs.core_events.Shows.{show_seat}
 use Rattle.slot_store.specs.core_events.Views.{Holds, HoldsStrongly}
-use Rattle.slot_store.proofs.Below.core_law.Lawful.{shows_lawful}
+use Rattle.slot_store.proofs.Below.core_law_Lawful.{shows_lawful}
 use Rattle.slot_store.specs.domain_rule.Views.{object_in}
 use Rattle.slot_store.specs.acquire_retire.Collecting.{move}
 use Rattle.slot_store.specs.acquire_retire.Domains.{DomainState}
 use Rattle.slot_store.specs.acquire_retire.Seats.{SeatState}
 use Rattle.slot_store.specs.control_word.Moves.{KnowsStill}
 use Rattle.slot_store.specs.control_word.Resting.{IsAtRest}
-use Rattle.slot_store.proofs.Below.control_word.Finding.{sound_before, strong_some}
-use Rattle.snapshot_ptr.proofs.Below.protected_loads.Telling.{four_notes, holds_has}
+use Rattle.slot_store.proofs.Below.control_word_Finding.{sound_before, strong_some}
+use Rattle.snapshot_ptr.proofs.Below.protected_loads_Telling.{four_notes, holds_has}
 use Rattle.slot_store.specs.Calls.{SeesWord}
 use Rattle.text_reading.specs.Going.{ComesTo}
 use Rattle.text_reading.proofs.Steps.{comes_none, comes_then}

@@ -12,9 +12,9 @@ use Rattle.directory_calls.specs.directory_law.Cells.{Area}
 use Rattle.directory_calls.specs.directory_law.Learnt.{Running}
 use Rattle.directory_calls.specs.directory_law.Law.{DirectoryLaw}
 use Rattle.directory_calls.specs.directory_law.Lessons.{ReadReady, read_next}
-use Rattle.directory_calls.proofs.Below.directory_law.Ends.{kept_is}
-use Rattle.directory_calls.proofs.Below.directory_law.Notes.{each_in}
-use Rattle.directory_calls.proofs.Below.directory_law.ReadingOn.{read_keeps}
+use Rattle.directory_calls.proofs.Below.directory_law_Ends.{kept_is}
+use Rattle.directory_calls.proofs.Below.directory_law_Notes.{each_in}
+use Rattle.directory_calls.proofs.Below.directory_law_ReadingOn.{read_keeps}
 use Rattle.text_reading.specs.Going.{PartTells}
 
 -- by the law each text that a seat has begun to read goes on to a whole one

@@ -7,7 +7,7 @@ use Rattle.slot_store.specs.acquire_retire.Domains.{DomainState}
 use Rattle.slot_store.specs.acquire_retire.Seats.{SeatState}
 use Rattle.slot_store.specs.control_word.Calls.{DropsStrong, GainsStrong}
 use Rattle.slot_store.specs.control_word.Trials.{Owns}
-use Rattle.slot_store.proofs.Below.control_word.Owning.{one_strong_fewer, one_strong_more}
+use Rattle.slot_store.proofs.Below.control_word_Owning.{one_strong_fewer, one_strong_more}
 
 module _ {P V : Type 0} {fits : List ℕ → Type 0} (d : DomainState P) (s copy : SlotId)
     (same : copy ≡ s) (old mid new : SeatState V) where

@@ -9,7 +9,7 @@ use Rattle.turn_loops.specs.declared.placing.Placing.{Placing}
 use Rattle.turn_loops.specs.declared.placing.Placing.TheVariants.{Neighbours, Spaced}
 use Rattle.std.specs.Prelude.{All}
 use Rattle.std.proofs.lemmas.List.Elements.{All-get_or}
-use Rattle.slot_store.proofs.Below.core_law.Each.{get_each, length_each}
+use Rattle.slot_store.proofs.Below.core_law_Each.{get_each, length_each}
 use Rattle.slot_store.specs.acquire_retire.Domains.{DomainState}
 use Rattle.slot_store.specs.acquire_retire.Openings.{begun_seat, opened_seats}
 use Rattle.slot_store.specs.acquire_retire.Seats.{SeatState}

@@ -13,7 +13,7 @@ use Rattle.atomic_weak.specs.plain_state.declared.slot.SlotId.{SlotId}
 use Rattle.atomic_weak.specs.plain_state.Lists.{times}
 use Rattle.atomic_weak.specs.core_events.Counts.{one}
 use Rattle.atomic_weak.specs.core_events.Views.{without}
-use Rattle.atomic_weak.proofs.Below.core_law.Kit.{one_same, times_push, times_without}
+use Rattle.atomic_weak.proofs.Below.core_law_Kit.{one_same, times_push, times_without}
 use Rattle.atomic_weak.specs.acquire_retire.Domains.{DomainState}
 use Rattle.atomic_weak.specs.acquire_retire.Seats.{SeatState}
 use Rattle.record_making.specs.directory_law.declared.view.View.{View}
@@ -26,8 +26,8 @@ use Rattle.record_making.specs.directory_law.Payloads.{Text}
 use Rattle.weak_intern.specs.Knowing.{Knows}
 use Rattle.record_making.specs.directory_calls.Steps.{Leaves, with_found}
 use Rattle.weak_intern.specs.Walking.{found_by}
-use Rattle.record_making.proofs.Below.directory_calls.Going.{holds_by, leaves_as, leaves_then, seat_same, some_earlier, some_later}
-use Rattle.record_making.proofs.Below.directory_calls.Parts.{Place}
+use Rattle.record_making.proofs.Below.directory_calls_Going.{holds_by, leaves_as, leaves_then, seat_same, some_earlier, some_later}
+use Rattle.record_making.proofs.Below.directory_calls_Parts.{Place}
 use Rattle.weak_intern.proofs.Placed.{GrowsBy, grow_then, lift_grows}
 use Rattle.record_making.specs.directory_law.declared.view.Rope.{Rope}
 

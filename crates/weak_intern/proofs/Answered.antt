@@ -8,7 +8,7 @@ use Rattle.record_making.specs.directory_law.Bytes.{IsTextOf}
 use Rattle.record_making.specs.directory_law.Payloads.{Text}
 use Rattle.record_making.specs.directory_law.Cells.{Area}
 use Rattle.record_making.specs.directory_law.Law.{IsBound, NoneBound}
-use Rattle.record_making.proofs.Below.directory_law.Bytes.{one_text}
+use Rattle.record_making.proofs.Below.directory_law_Bytes.{one_text}
 use Rattle.weak_intern.specs.declared.walking.Walk.{Walk}
 use Rattle.weak_intern.specs.declared.walking.Walk.TheVariants as walk
 use Rattle.record_making.specs.directory_calls.Directories.{HasNoRecord, IsRecord}
@@ -16,7 +16,7 @@ use Rattle.record_making.specs.directory_calls.Steps.{AfterStep, AtStep}
 use Rattle.atomic_weak.specs.counted_handles.Handles.{Handle}
 use Rattle.weak_intern.specs.Knowing.{KnowsRecord}
 use Rattle.weak_intern.specs.Walking.{ComesTo}
-use Rattle.record_making.proofs.Below.directory_calls.Going.{also, also_some}
+use Rattle.record_making.proofs.Below.directory_calls_Going.{also, also_some}
 
 module _ {P V : Type 0} (d : DomainState P) (z : Area) (bytes : List ℕ) (text : Text)
     (is : IsTextOf bytes text) (a b : SeatState V) where

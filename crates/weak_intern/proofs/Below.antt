@@ -1,4 +1,5 @@
 -- What callers cite of the proofs below.
-pub use Rattle.record_making.proofs.Below.directory_calls as directory_calls
-pub use Rattle.record_making.proofs as record_making
-pub use Rattle.text_reading.proofs as text_reading
+pub use Rattle.record_making.proofs.Below.directory_calls_Going as directory_calls_Going
+pub use Rattle.record_making.proofs.Below.directory_calls_Learnt as directory_calls_Learnt
+pub use Rattle.record_making.proofs.Dropped as record_making_Dropped
+pub use Rattle.text_reading.proofs.LetGo as text_reading_LetGo

@@ -20,7 +20,7 @@ use Rattle.atomic_weak.specs.core_events.Shows.{show_seat, shows}
 use Rattle.atomic_weak.specs.core_events.Steps.{without_given}
 use Rattle.atomic_weak.specs.core_events.Views.{Holds, without}
 use Rattle.atomic_weak.specs.core_events.Words.{slot_in}
-use Rattle.atomic_weak.proofs.Below.core_law.Kit.{one_same, times_push, times_without}
+use Rattle.atomic_weak.proofs.Below.core_law_Kit.{one_same, times_push, times_without}
 use Rattle.atomic_weak.specs.domain_rule.Views.{object_in, own_of}
 use Rattle.atomic_weak.specs.acquire_retire.Collecting.{move}
 use Rattle.atomic_weak.specs.acquire_retire.Calls.{IsReady, IsSameView, same_view}
@@ -28,7 +28,7 @@ use Rattle.atomic_weak.specs.acquire_retire.Domains.{DomainState}
 use Rattle.atomic_weak.specs.acquire_retire.Seats.{SeatState}
 use Rattle.atomic_weak.specs.control_word.Calls.{DropsWeak, GainsWeak, weakly_dropped_by, with_weak, without_weak}
 use Rattle.atomic_weak.specs.control_word.Moves.{KnowsStill}
-use Rattle.atomic_weak.proofs.Below.protected_loads.Telling.{holds_has}
+use Rattle.atomic_weak.proofs.Below.protected_loads_Telling.{holds_has}
 use Rattle.atomic_weak.specs.retiring_stores.Exchanging.{LosesTo, Replaces}
 use Rattle.atomic_weak.specs.retiring_stores.Scanning.{ScansWhereDue}
 use Rattle.record_making.specs.directory_law.declared.view.Rope.{Rope}
@@ -46,9 +46,9 @@ use Rattle.weak_intern.specs.Interning.{ComesBy}
 use Rattle.weak_intern.specs.Races.{MissesCell}
 use Rattle.record_making.specs.directory_law.Payloads.{IsText, Text}
 use Rattle.record_making.specs.directory_calls.Steps.{AfterStep, GoesOn, Leaves, aside}
-use Rattle.record_making.proofs.Below.directory_calls.Going.{goes_none, goes_then, holds_by, leaves_as, leaves_core, leaves_then, seat_same, some_earlier, some_later, some_step, step_goes, walks_go}
+use Rattle.record_making.proofs.Below.directory_calls_Going.{goes_none, goes_then, holds_by, leaves_as, leaves_core, leaves_then, seat_same, some_earlier, some_later, some_step, step_goes, walks_go}
 use Rattle.record_making.proofs.Made.{own_life}
-use Rattle.record_making.proofs.Below.directory_calls.Parts.{Place, lift_ready, lifts, tells}
+use Rattle.record_making.proofs.Below.directory_calls_Parts.{Place, lift_ready, lifts, tells}
 
 -- whether a compare and exchange that expects null found it
 is_done : (w : ℕ) (b : Bool) → (w == 0) ≡ b

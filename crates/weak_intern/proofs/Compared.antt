@@ -18,10 +18,10 @@ use Rattle.atomic_weak.specs.acquire_retire.Domains.{DomainState}
 use Rattle.atomic_weak.specs.acquire_retire.Seats.{SeatState}
 use Rattle.atomic_weak.specs.control_word.Moves.{KnowsStill}
 use Rattle.atomic_weak.specs.control_word.Resting.{IsAtRest}
-use Rattle.atomic_weak.proofs.Below.protected_loads.Telling.{holds_has}
+use Rattle.atomic_weak.proofs.Below.protected_loads_Telling.{holds_has}
 use Rattle.record_making.specs.slot_store.Calls.{SeesWord}
 use Rattle.record_making.specs.directory_calls.Steps.{Leaves}
-use Rattle.record_making.proofs.Below.directory_calls.Going.{leaves_core}
+use Rattle.record_making.proofs.Below.directory_calls_Going.{leaves_core}
 use Rattle.weak_intern.specs.Sighting.{Compares, compared_by}
 
 -- n words of the payload of s were read, and nothing else was done

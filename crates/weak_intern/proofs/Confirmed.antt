@@ -19,8 +19,8 @@ use Rattle.atomic_weak.specs.acquire_retire.Calls.{IsReady, Steps}
 use Rattle.atomic_weak.specs.acquire_retire.Domains.{DomainState}
 use Rattle.atomic_weak.specs.acquire_retire.Seats.{SeatState}
 use Rattle.atomic_weak.specs.control_word.Resting.{IsAtRest}
-use Rattle.atomic_weak.proofs.Below.control_word.Becoming.{knows_after, one_step, rest_after}
-use Rattle.atomic_weak.proofs.Below.protected_loads.Telling.{holds_has}
+use Rattle.atomic_weak.proofs.Below.control_word_Becoming.{knows_after, one_step, rest_after}
+use Rattle.atomic_weak.proofs.Below.protected_loads_Telling.{holds_has}
 use Rattle.record_making.specs.directory_law.declared.view.Ran.{Ran}
 use Rattle.record_making.specs.directory_law.declared.view.View.{View}
 use Rattle.record_making.specs.directory_law.Views.{In}
@@ -32,8 +32,8 @@ use Rattle.record_making.specs.directory_law.Steps.{life_in, life_of, payload_in
 use Rattle.record_making.specs.directory_protocol.Keeping.{MindsNone}
 use Rattle.record_making.specs.directory_calls.Directories.{CanCount}
 use Rattle.record_making.specs.directory_calls.Steps.{AtStep, Leaves}
-use Rattle.record_making.proofs.Below.directory_calls.Going.{at_step, leaves_core}
-use Rattle.record_making.proofs.Below.directory_calls.Parts.{LearnsBy, Place, lift_learns, lift_ready, lifts, tells}
+use Rattle.record_making.proofs.Below.directory_calls_Going.{at_step, leaves_core}
+use Rattle.record_making.proofs.Below.directory_calls_Parts.{LearnsBy, Place, lift_learns, lift_ready, lifts, tells}
 use Rattle.text_reading.specs.Reading.{HasRead}
 use Rattle.weak_intern.specs.Seeing.{HasSeenIn}
 

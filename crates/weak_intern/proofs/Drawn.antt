@@ -12,13 +12,13 @@ use Rattle.atomic_weak.specs.acquire_retire.Calls.{IsReady, Steps}
 use Rattle.atomic_weak.specs.acquire_retire.Domains.{DomainState}
 use Rattle.atomic_weak.specs.acquire_retire.Seats.{SeatState}
 use Rattle.atomic_weak.specs.control_word.Resting.{IsAtRest}
-use Rattle.atomic_weak.proofs.Below.control_word.Becoming.{knows_after, one_step, rest_after}
-use Rattle.atomic_weak.proofs.Below.protected_loads.Telling.{holds_has}
+use Rattle.atomic_weak.proofs.Below.control_word_Becoming.{knows_after, one_step, rest_after}
+use Rattle.atomic_weak.proofs.Below.protected_loads_Telling.{holds_has}
 use Rattle.record_making.specs.directory_law.declared.view.View.{View}
 use Rattle.record_making.specs.directory_law.Cells.{Area}
 use Rattle.record_making.specs.directory_law.Lessons.{DrawReady, DrawTells, draw_next, drawn}
 use Rattle.record_making.specs.directory_protocol.Keeping.{MindsNone}
-use Rattle.record_making.proofs.Below.directory_calls.Parts.{Place, lifts, tells}
+use Rattle.record_making.proofs.Below.directory_calls_Parts.{Place, lifts, tells}
 use Rattle.weak_intern.specs.Drawing.{Draws}
 
 module _ {P V : Type 0} (fits : List ℕ → Type 0) (d : DomainState P) (l : Place V) (z : Area)

@@ -9,12 +9,12 @@ use Rattle.atomic_weak.specs.core_events.declared.act.Act.TheVariants as act
 use Rattle.atomic_weak.specs.core_events.declared.outcome.Outcome.{Outcome}
 use Rattle.atomic_weak.specs.core_events.declared.view.CoreView.{CoreView}
 use Rattle.atomic_weak.specs.core_events.Steps.{HasRoom}
-use Rattle.atomic_weak.proofs.Below.core_law.Kit.{times_push}
+use Rattle.atomic_weak.proofs.Below.core_law_Kit.{times_push}
 use Rattle.atomic_weak.specs.acquire_retire.Calls.{Steps}
 use Rattle.atomic_weak.specs.acquire_retire.Domains.{DomainState}
 use Rattle.atomic_weak.specs.acquire_retire.Seats.{SeatState}
 use Rattle.atomic_weak.specs.control_word.Resting.{IsAtRest}
-use Rattle.atomic_weak.proofs.Below.control_word.Becoming.{knows_after, one_step, rest_after}
+use Rattle.atomic_weak.proofs.Below.control_word_Becoming.{knows_after, one_step, rest_after}
 use Rattle.atomic_weak.specs.counted_handles.Handles.{Handle}
 use Rattle.record_making.specs.directory_law.declared.view.View.{View}
 use Rattle.record_making.specs.directory_law.Cells.{Area, on}
@@ -32,9 +32,9 @@ use Rattle.weak_intern.specs.declared.walking.Walk.{Walk}
 use Rattle.weak_intern.specs.declared.walking.Walk.TheVariants as walk
 use Rattle.weak_intern.specs.Costs.{PassesBy, TakesBy}
 use Rattle.weak_intern.specs.Walking.{ComesTo, EndsAround, FoundBy, Meets, met, taken, used_by, walked_by}
-use Rattle.record_making.proofs.Below.directory_calls.Going.{at_step, from_earlier, holds_by, leaves_as, leaves_core, leaves_none, leaves_then, seat_same}
-use Rattle.record_making.proofs.Below.directory_calls.Learnt.{passes_still, walked_still}
-use Rattle.record_making.proofs.Below.directory_calls.Parts.{LearnsBy, Place, lifts, part_none, tells, zero_then}
+use Rattle.record_making.proofs.Below.directory_calls_Going.{at_step, from_earlier, holds_by, leaves_as, leaves_core, leaves_none, leaves_then, seat_same}
+use Rattle.record_making.proofs.Below.directory_calls_Learnt.{passes_still, walked_still}
+use Rattle.record_making.proofs.Below.directory_calls_Parts.{LearnsBy, Place, lifts, part_none, tells, zero_then}
 use Rattle.weak_intern.proofs.Costs.{passes_either, passes_none}
 
 -- A LAST LOOK

@@ -3,7 +3,7 @@ use Rattle.std.proofs.Common.{◌≡◌, ℕ, ◌<◌, ◌≤◌, ◌-◌, ◌^�
 use Rattle.std.specs.Prelude.{slice_index_or}
 use Rattle.record_making.specs.directory_law.Payloads.{IsRest, IsText, Text, size}
 use Rattle.record_making.specs.directory_law.Places.{hash_on}
-use Rattle.record_making.proofs.Below.directory_law.Bytes.{text_place}
+use Rattle.record_making.proofs.Below.directory_law_Bytes.{text_place}
 use Rattle.record_making.specs.Texts.{parts_after, parts_of, payload_of, text_of}
 use Rattle.record_making.proofs.Packed.{begins_so, bytes_small, is_text_of, packs}
 use Rattle.weak_intern.specs.Sought.{IsSought}

@@ -3,7 +3,7 @@ use Rattle.std.proofs.Common.{◌≡◌, inl, inr, ⊎_elim, ℕ, List, ◌<◌,
 use Rattle.std.specs.Prelude.{Err, IfOk, Ok, Option, Result}
 use Rattle.atomic_weak.specs.plain_state.declared.slot.SlotId.{SlotId}
 use Rattle.atomic_weak.specs.plain_state.Lists.{times}
-use Rattle.atomic_weak.proofs.Below.core_law.Kit.{one_same, times_push}
+use Rattle.atomic_weak.proofs.Below.core_law_Kit.{one_same, times_push}
 use Rattle.atomic_weak.specs.acquire_retire.Domains.{DomainState}
 use Rattle.atomic_weak.specs.acquire_retire.Seats.{SeatState}
 use Rattle.atomic_weak.specs.counted_handles.Handles.{Handle}
@@ -20,8 +20,8 @@ use Rattle.record_making.specs.directory_calls.Steps.{AtStep, GoesOn, Leaves, ha
 use Rattle.weak_intern.specs.Walking.{ComesTo, used_by, walked_by}
 use Rattle.weak_intern.specs.Knowing.{Knows, KnowsRecord}
 use Rattle.weak_intern.proofs.Answered.{is_record, is_record_after, no_record}
-use Rattle.record_making.proofs.Below.directory_calls.Going.{from_earlier, holds_by, leaves_as, leaves_then, seat_same, some_earlier, to_later}
-use Rattle.record_making.proofs.Below.directory_calls.Parts.{LearnsBy, Place}
+use Rattle.record_making.proofs.Below.directory_calls_Going.{from_earlier, holds_by, leaves_as, leaves_then, seat_same, some_earlier, to_later}
+use Rattle.record_making.proofs.Below.directory_calls_Parts.{LearnsBy, Place}
 use Rattle.weak_intern.proofs.Placed.{GrowsBy, grow_then, part_grows}
 
 -- the live record that the walk came to

@@ -18,10 +18,10 @@ use Rattle.atomic_weak.specs.acquire_retire.Domains.{DomainState}
 use Rattle.atomic_weak.specs.acquire_retire.Seats.{SeatState}
 use Rattle.atomic_weak.specs.control_word.Moves.{KnowsStill}
 use Rattle.atomic_weak.specs.control_word.Resting.{IsAtRest}
-use Rattle.atomic_weak.proofs.Below.control_word.Becoming.{Comes, calling, comes_one}
+use Rattle.atomic_weak.proofs.Below.control_word_Becoming.{Comes, calling, comes_one}
 use Rattle.atomic_weak.proofs.Noted.{has_released, holds_weak, noted_there}
-use Rattle.atomic_weak.proofs.Below.protected_loads.Noting.{all_settled, beside, release_keeps, rests_noted}
-use Rattle.atomic_weak.proofs.Below.protected_loads.Telling.{holds_has}
+use Rattle.atomic_weak.proofs.Below.protected_loads_Noting.{all_settled, beside, release_keeps, rests_noted}
+use Rattle.atomic_weak.proofs.Below.protected_loads_Telling.{holds_has}
 use Rattle.weak_intern.specs.declared.seeing.Sighted.{Sighted}
 use Rattle.weak_intern.specs.Sighting.{IsSighted, let_go_of}
 

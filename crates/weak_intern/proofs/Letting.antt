@@ -13,7 +13,7 @@ use Rattle.atomic_weak.specs.core_events.declared.view.CoreView.{CoreView}
 use Rattle.atomic_weak.specs.core_events.declared.view.Move.{Move}
 use Rattle.atomic_weak.specs.core_events.Shows.{show_seat}
 use Rattle.atomic_weak.specs.core_events.Views.{Holds}
-use Rattle.atomic_weak.proofs.Below.core_law.Kit.{times_push}
+use Rattle.atomic_weak.proofs.Below.core_law_Kit.{times_push}
 use Rattle.atomic_weak.specs.domain_rule.Views.{object_in}
 use Rattle.atomic_weak.specs.acquire_retire.Collecting.{move}
 use Rattle.atomic_weak.specs.acquire_retire.Domains.{DomainState}
@@ -22,17 +22,17 @@ use Rattle.atomic_weak.specs.control_word.declared.upgrading.UpgradeError.{Upgra
 use Rattle.atomic_weak.specs.control_word.declared.upgrading.UpgradeError.TheVariants as no_raise
 use Rattle.atomic_weak.specs.control_word.Calls.{FindsEnded, GainsStrong}
 use Rattle.atomic_weak.specs.control_word.Moves.{KnowsStill}
-use Rattle.atomic_weak.proofs.Below.control_word.Owning.{some_more}
+use Rattle.atomic_weak.proofs.Below.control_word_Owning.{some_more}
 use Rattle.atomic_weak.specs.counted_handles.Handles.{Handle}
-use Rattle.atomic_weak.proofs.Below.protected_loads.Telling.{holds_has}
+use Rattle.atomic_weak.proofs.Below.protected_loads_Telling.{holds_has}
 use Rattle.record_making.specs.directory_law.Cells.{Area}
 use Rattle.record_making.specs.directory_law.Law.{IsBound}
 use Rattle.record_making.specs.directory_law.Lessons.{UpgradeTells, upgrade_next}
 use Rattle.record_making.specs.directory_law.Payloads.{IsText, Text}
 use Rattle.record_making.specs.directory_law.Views.{In, note}
 use Rattle.record_making.specs.directory_calls.Steps.{AtStep}
-use Rattle.record_making.proofs.Below.directory_calls.Going.{also, to_later}
-use Rattle.record_making.proofs.Below.directory_calls.Parts.{LearnsBy, Place, lifts, part_none, tells}
+use Rattle.record_making.proofs.Below.directory_calls_Going.{also, to_later}
+use Rattle.record_making.proofs.Below.directory_calls_Parts.{LearnsBy, Place, lifts, part_none, tells}
 use Rattle.text_reading.specs.Reading.{HasBegun}
 use Rattle.weak_intern.specs.declared.seeing.Sighted.{Sighted}
 use Rattle.weak_intern.specs.Seeing.{BeginsText}

@@ -13,14 +13,14 @@ use Rattle.atomic_weak.specs.acquire_retire.Seats.{SeatState}
 use Rattle.atomic_weak.specs.control_word.Moves.{KnowsStill}
 use Rattle.atomic_weak.specs.protected_loads.Loads.{protected_by}
 use Rattle.atomic_weak.specs.protected_loads.Retries.{lost_by}
-use Rattle.atomic_weak.proofs.Below.protected_loads.Noting.{second_stays, written_back}
+use Rattle.atomic_weak.proofs.Below.protected_loads_Noting.{second_stays, written_back}
 use Rattle.record_making.specs.directory_law.declared.view.View.{View}
 use Rattle.record_making.specs.directory_law.Cells.{Area}
 use Rattle.record_making.specs.directory_law.Payloads.{Text}
 use Rattle.record_making.specs.directory_calls.Steps.{Leaves, with_found}
-use Rattle.record_making.proofs.Below.directory_calls.Going.{leaves_core}
-use Rattle.record_making.proofs.Below.directory_calls.Parts.{LearnsBy, Place}
-use Rattle.text_reading.proofs.Below.snapshot_ptr.Under.{least_is_free}
+use Rattle.record_making.proofs.Below.directory_calls_Going.{leaves_core}
+use Rattle.record_making.proofs.Below.directory_calls_Parts.{LearnsBy, Place}
+use Rattle.text_reading.proofs.Below.snapshot_ptr_Under.{least_is_free}
 use Rattle.text_reading.specs.Reading.{HasTwoFree}
 use Rattle.weak_intern.specs.declared.looking.Sight.{Sight}
 use Rattle.weak_intern.specs.declared.looking.Sight.TheVariants as sight

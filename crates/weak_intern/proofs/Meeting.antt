@@ -18,9 +18,9 @@ use Rattle.weak_intern.specs.Seeing.{BeginsText, HasSeenAt, seen_in}
 use Rattle.weak_intern.specs.Knowing.{Knows}
 use Rattle.record_making.specs.directory_calls.Steps.{AtStep}
 use Rattle.weak_intern.specs.Walking.{MeetsIn}
-use Rattle.record_making.proofs.Below.directory_calls.Going.{also}
+use Rattle.record_making.proofs.Below.directory_calls_Going.{also}
 use Rattle.weak_intern.proofs.Heads.{short_text}
-use Rattle.record_making.proofs.Below.directory_calls.Parts.{LearnsBy, Place}
+use Rattle.record_making.proofs.Below.directory_calls_Parts.{LearnsBy, Place}
 
 -- a test that failed
 pub is_not : (b : Bool) → b ≡ false → b ≡ true → ⊥

@@ -15,8 +15,8 @@ use Rattle.atomic_weak.specs.domain_rule.Views.{object_in}
 use Rattle.record_making.specs.directory_law.Cells.{Area}
 use Rattle.record_making.specs.directory_law.Payloads.{Text}
 use Rattle.record_making.specs.directory_calls.Steps.{GoesOn, Leaves, aside, handle_by, with_found}
-use Rattle.record_making.proofs.Below.directory_calls.Going.{leaves_core}
-use Rattle.record_making.proofs.Below.directory_calls.Parts.{LearnsBy, Place, part_none}
+use Rattle.record_making.proofs.Below.directory_calls_Going.{leaves_core}
+use Rattle.record_making.proofs.Below.directory_calls_Parts.{LearnsBy, Place, part_none}
 use Rattle.text_reading.specs.Reading.{HasTwoFree}
 use Rattle.weak_intern.specs.declared.looking.Sight.{Sight}
 use Rattle.weak_intern.specs.declared.looking.Sight.TheVariants as sight

@@ -7,7 +7,7 @@ use Rattle.atomic_weak.specs.plain_state.Lists.{times}
 use Rattle.atomic_weak.specs.plain_protocol.Owns.{Object}
 use Rattle.atomic_weak.specs.core_events.declared.view.CoreView.{CoreView}
 use Rattle.atomic_weak.specs.core_events.Steps.{HasRoom}
-use Rattle.atomic_weak.proofs.Below.core_law.Kit.{times_push}
+use Rattle.atomic_weak.proofs.Below.core_law_Kit.{times_push}
 use Rattle.atomic_weak.specs.domain_rule.Views.{object_in}
 use Rattle.atomic_weak.specs.acquire_retire.Domains.{DomainState}
 use Rattle.atomic_weak.specs.acquire_retire.Seats.{SeatState}
@@ -32,9 +32,9 @@ use Rattle.record_making.specs.directory_calls.Steps.{GoesOn, Leaves, aside, wit
 use Rattle.weak_intern.specs.Races.{IsWhyShort, LosesRace}
 use Rattle.weak_intern.specs.Sighting.{Sights}
 use Rattle.weak_intern.specs.Walking.{Meets, found_by, met, taken}
-use Rattle.record_making.proofs.Below.directory_calls.Going.{from_earlier, holds_by, leaves_as, leaves_none, leaves_then, seat_same, some_earlier}
-use Rattle.record_making.proofs.Below.directory_calls.Learnt.{learns_keeps, walked_still}
-use Rattle.record_making.proofs.Below.directory_calls.Parts.{LearnsBy, Place, part_none, zero_then}
+use Rattle.record_making.proofs.Below.directory_calls_Going.{from_earlier, holds_by, leaves_as, leaves_none, leaves_then, seat_same, some_earlier}
+use Rattle.record_making.proofs.Below.directory_calls_Learnt.{learns_keeps, walked_still}
+use Rattle.record_making.proofs.Below.directory_calls_Parts.{LearnsBy, Place, part_none, zero_then}
 use Rattle.weak_intern.proofs.Races.{UsesFew, spent_short, uses_on}
 
 -- MORE LEARNT, and more kept

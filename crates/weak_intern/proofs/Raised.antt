@@ -20,7 +20,7 @@ use Rattle.atomic_weak.specs.acquire_retire.Seats.{SeatState}
 use Rattle.atomic_weak.specs.control_word.Calls.{FindsEnded, GainsStrong}
 use Rattle.atomic_weak.specs.control_word.Moves.{KnowsStill}
 use Rattle.atomic_weak.specs.core_events.Views.{Holds}
-use Rattle.atomic_weak.proofs.Below.protected_loads.Telling.{holds_has}
+use Rattle.atomic_weak.proofs.Below.protected_loads_Telling.{holds_has}
 use Rattle.record_making.specs.directory_law.declared.view.View.{View}
 use Rattle.record_making.specs.directory_law.Cells.{Area}
 use Rattle.record_making.specs.directory_law.Views.{In, note}
@@ -33,8 +33,8 @@ use Rattle.record_making.specs.directory_calls.Directories.{CanCount}
 use Rattle.text_reading.specs.Reading.{HasBegun}
 use Rattle.weak_intern.specs.Seeing.{BeginsText, HasSeenIn}
 use Rattle.record_making.specs.directory_calls.Steps.{AtStep}
-use Rattle.record_making.proofs.Below.directory_calls.Going.{at_step}
-use Rattle.record_making.proofs.Below.directory_calls.Parts.{LearnsBy, Place, lift_learns, lift_ready, lifts, tells}
+use Rattle.record_making.proofs.Below.directory_calls_Going.{at_step}
+use Rattle.record_making.proofs.Below.directory_calls_Parts.{LearnsBy, Place, lift_learns, lift_ready, lifts, tells}
 
 counts : (w : ℕ) → outcome.Up ≡ (if nat_lt w ZERO then outcome.Up else outcome.Dead)
     → ((if nat_lt w ZERO then 0 else 1) == 0) ≡ true

@@ -7,8 +7,8 @@ use Rattle.std.specs.Str.{bytes_eq}
 use Rattle.record_making.specs.directory_law.Payloads.{IsHead, IsText, Text}
 use Rattle.record_making.specs.directory_law.Bytes.{AreBytes, IsTextOf, text_bytes}
 use Rattle.record_making.specs.directory_law.Walks.{NotPrefix}
-use Rattle.record_making.proofs.Below.directory_law.Bytes.{one_text, text_tells}
-use Rattle.record_making.proofs.Below.directory_law.Ends.{append_none, text_ends}
+use Rattle.record_making.proofs.Below.directory_law_Bytes.{one_text, text_tells}
+use Rattle.record_making.proofs.Below.directory_law_Ends.{append_none, text_ends}
 use Rattle.text_reading.specs.Reading.{AreBytesOf}
 use Rattle.text_reading.proofs.Pieces.{bytes_have_text}
 use Rattle.record_making.specs.Texts.{text_of}

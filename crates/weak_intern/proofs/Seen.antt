@@ -20,7 +20,7 @@ use Rattle.atomic_weak.specs.core_events.Runs.{after}
 use Rattle.atomic_weak.specs.core_events.Shows.{show_seat, shows}
 use Rattle.atomic_weak.specs.core_events.Views.{note_of}
 use Rattle.atomic_weak.specs.core_events.Words.{slot_in}
-use Rattle.atomic_weak.proofs.Below.core_law.ShownPlaces.{word_slot}
+use Rattle.atomic_weak.proofs.Below.core_law_ShownPlaces.{word_slot}
 use Rattle.atomic_weak.specs.domain_rule.Views.{object_in, own_of}
 use Rattle.atomic_weak.specs.acquire_retire.Calls.{Steps}
 use Rattle.atomic_weak.specs.acquire_retire.Domains.{DomainState}
@@ -29,11 +29,11 @@ use Rattle.atomic_weak.specs.acquire_retire.Seats.{SeatState}
 use Rattle.atomic_weak.specs.control_word.Resting.{IsAtRest}
 use Rattle.atomic_weak.specs.protected_loads.Loads.{FindsNull, Protects, protected_by, with_snapshot}
 use Rattle.atomic_weak.specs.protected_loads.Retries.{AcquiresAtLast, IsReadyToReacquire}
-use Rattle.atomic_weak.proofs.Below.protected_loads.Checking.{valid_word}
-use Rattle.atomic_weak.proofs.Below.protected_loads.Learning.{client_null}
-use Rattle.atomic_weak.proofs.Below.protected_loads.Noting.{written}
-use Rattle.atomic_weak.proofs.Below.protected_loads.Protecting.{holds_snapshot}
-use Rattle.atomic_weak.proofs.Below.protected_loads.Telling.{four_notes, holds_has}
+use Rattle.atomic_weak.proofs.Below.protected_loads_Checking.{valid_word}
+use Rattle.atomic_weak.proofs.Below.protected_loads_Learning.{client_null}
+use Rattle.atomic_weak.proofs.Below.protected_loads_Noting.{written}
+use Rattle.atomic_weak.proofs.Below.protected_loads_Protecting.{holds_snapshot}
+use Rattle.atomic_weak.proofs.Below.protected_loads_Telling.{four_notes, holds_has}
 use Rattle.record_making.specs.directory_law.declared.view.View.{View}
 use Rattle.record_making.specs.directory_law.Views.{In}
 use Rattle.record_making.specs.directory_law.Cells.{Area, cell, on}
@@ -43,13 +43,13 @@ use Rattle.record_making.specs.directory_law.Steps.{LooksAt}
 use Rattle.record_making.specs.directory_protocol.Keeping.{MindsNone}
 use Rattle.weak_intern.specs.declared.seeing.Sighted.{Sighted}
 use Rattle.weak_intern.specs.Seeing.{EndsAt, HasSeenAt, seen_in}
-use Rattle.text_reading.proofs.Below.snapshot_ptr.Under.{IsFreeWord}
+use Rattle.text_reading.proofs.Below.snapshot_ptr_Under.{IsFreeWord}
 use Rattle.weak_intern.specs.Sighting.{IsSighted, Sights, SightsBy, seen_by}
 use Rattle.record_making.specs.directory_calls.Steps.{AtStep}
-use Rattle.record_making.proofs.Below.directory_calls.Going.{at_step, from_earlier}
-use Rattle.record_making.proofs.Below.directory_calls.Learnt.{learns_keeps, learns_none, see_learns, sees_learns, walked_still}
+use Rattle.record_making.proofs.Below.directory_calls_Going.{at_step, from_earlier}
+use Rattle.record_making.proofs.Below.directory_calls_Learnt.{learns_keeps, learns_none, see_learns, sees_learns, walked_still}
 use Rattle.weak_intern.proofs.Tries.{goes_mid, idle_mid, learns_mid, rest_mid, sights_so}
-use Rattle.record_making.proofs.Below.directory_calls.Parts.{LearnsBy, Place, lift_learns, lift_ready, lifts, part_then, tells}
+use Rattle.record_making.proofs.Below.directory_calls_Parts.{LearnsBy, Place, lift_learns, lift_ready, lifts, part_then, tells}
 
 module _ {P V : Type 0} (fits : List ℕ → Type 0) (d : DomainState P) (l : Place V) (z : Area)
     (i c : ℕ) (is : i ≡ z.first + c) (j : ℕ) (old : SeatState V) where

@@ -5,7 +5,7 @@ use Rattle.atomic_weak.specs.plain_state.declared.slot.SlotId.{SlotId}
 use Rattle.atomic_weak.specs.plain_state.Lists.{times}
 use Rattle.atomic_weak.specs.plain_protocol.Owns.{Object}
 use Rattle.atomic_weak.specs.core_events.Views.{without}
-use Rattle.atomic_weak.proofs.Below.core_law.Kit.{one_same, times_push, times_without}
+use Rattle.atomic_weak.proofs.Below.core_law_Kit.{one_same, times_push, times_without}
 use Rattle.atomic_weak.specs.domain_rule.Views.{object_in}
 use Rattle.atomic_weak.specs.acquire_retire.Domains.{DomainState}
 use Rattle.atomic_weak.specs.acquire_retire.Seats.{SeatState}
@@ -15,9 +15,9 @@ use Rattle.record_making.specs.directory_law.Payloads.{Text}
 use Rattle.record_making.specs.directory_law.Views.{In}
 use Rattle.record_making.specs.directory_calls.Directories.{CanCount}
 use Rattle.record_making.specs.directory_calls.Steps.{GoesOn, Leaves, aside, with_found}
-use Rattle.record_making.proofs.Below.directory_calls.Going.{from_earlier, holds_by, leaves_as, leaves_then}
-use Rattle.record_making.proofs.Below.directory_calls.Learnt.{walked_still}
-use Rattle.record_making.proofs.Below.directory_calls.Parts.{LearnsBy, Place}
+use Rattle.record_making.proofs.Below.directory_calls_Going.{from_earlier, holds_by, leaves_as, leaves_then}
+use Rattle.record_making.proofs.Below.directory_calls_Learnt.{walked_still}
+use Rattle.record_making.proofs.Below.directory_calls_Parts.{LearnsBy, Place}
 use Rattle.text_reading.specs.Reading.{HasTwoFree}
 use Rattle.weak_intern.specs.declared.looking.Sight.{Sight}
 use Rattle.weak_intern.specs.declared.looking.Sight.TheVariants as sight

@@ -15,15 +15,15 @@ use Rattle.atomic_weak.specs.acquire_retire.Collecting.{move}
 use Rattle.atomic_weak.specs.acquire_retire.Domains.{DomainState}
 use Rattle.atomic_weak.specs.acquire_retire.Seats.{SeatState}
 use Rattle.atomic_weak.specs.control_word.Resting.{IsAtRest, IsSettled}
-use Rattle.atomic_weak.proofs.Below.control_word.Becoming.{walks_table}
+use Rattle.atomic_weak.proofs.Below.control_word_Becoming.{walks_table}
 use Rattle.atomic_weak.specs.protected_loads.Loads.{Misses, announced_by}
 use Rattle.atomic_weak.specs.protected_loads.Retries.{AcquiresAtLast, Loses, Lost, lost_by}
 use Rattle.record_making.specs.directory_law.Cells.{Area}
 use Rattle.record_making.specs.directory_law.Lessons.{SeeTells, see_next}
-use Rattle.text_reading.proofs.Below.snapshot_ptr.Under.{IsFreeWord}
+use Rattle.text_reading.proofs.Below.snapshot_ptr_Under.{IsFreeWord}
 use Rattle.record_making.specs.directory_calls.Steps.{GoesOn}
-use Rattle.record_making.proofs.Below.directory_calls.Learnt.{see_learns}
-use Rattle.record_making.proofs.Below.directory_calls.Parts.{LearnsBy, Place, lift_learns, lifts, part_none, part_then, tells}
+use Rattle.record_making.proofs.Below.directory_calls_Learnt.{see_learns}
+use Rattle.record_making.proofs.Below.directory_calls_Parts.{LearnsBy, Place, lift_learns, lifts, part_none, part_then, tells}
 
 module _ {P V : Type 0} (fits : List ℕ → Type 0) (d : DomainState P) (l : Place V) (z : Area)
     (i j : ℕ) (old : SeatState V) where

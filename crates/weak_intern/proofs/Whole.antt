@@ -5,7 +5,7 @@ use Rattle.atomic_weak.specs.plain_state.declared.slot.SlotId.{SlotId}
 use Rattle.atomic_weak.specs.plain_state.Lists.{times}
 use Rattle.atomic_weak.specs.plain_protocol.Owns.{Object}
 use Rattle.atomic_weak.specs.core_events.Views.{without}
-use Rattle.atomic_weak.proofs.Below.core_law.Kit.{times_push, times_without}
+use Rattle.atomic_weak.proofs.Below.core_law_Kit.{times_push, times_without}
 use Rattle.atomic_weak.specs.domain_rule.Views.{object_in}
 use Rattle.atomic_weak.specs.acquire_retire.Domains.{DomainState}
 use Rattle.atomic_weak.specs.acquire_retire.Seats.{SeatState}
@@ -19,8 +19,8 @@ use Rattle.record_making.specs.directory_law.Views.{In}
 use Rattle.record_making.specs.directory_law.Walks.{NotPrefix}
 use Rattle.record_making.specs.directory_calls.Directories.{CanCount}
 use Rattle.record_making.specs.directory_calls.Steps.{AtStep, Leaves}
-use Rattle.record_making.proofs.Below.directory_calls.Going.{from_earlier, holds_by, leaves_as, leaves_then, seat_same}
-use Rattle.record_making.proofs.Below.directory_calls.Parts.{LearnsBy, Place, zero_then}
+use Rattle.record_making.proofs.Below.directory_calls_Going.{from_earlier, holds_by, leaves_as, leaves_then, seat_same}
+use Rattle.record_making.proofs.Below.directory_calls_Parts.{LearnsBy, Place, zero_then}
 use Rattle.text_reading.specs.Reading.{HasRead}
 use Rattle.weak_intern.specs.declared.looking.Sight.TheVariants as sight
 use Rattle.weak_intern.specs.Knowing.{Knows}

@@ -17,7 +17,7 @@ use Rattle.directory_law.proofs.Gives.{bound_live, kept_reads, one_record}
 use Rattle.directory_law.proofs.Kept.{kept_counts}
 use Rattle.words_law.specs.Law.{HasText, head_of}
 use Rattle.words_law.specs.Texts.{AllPieces, IsAlive}
-use Rattle.words_law.proofs.Pieces.{same_bytes}
+use Rattle.words_law.proofs.TextsTold.{same_bytes}
 use Rattle.words_law.proofs.Texts.{has_one}
 
 module _ (z : Area) (p : Plain) (views : List View) (law : DirectoryLaw z p views) where

@@ -37,7 +37,7 @@ use Rattle.words_law.specs.Law.{WordsLaw, ItemsHaveTexts, Gone}
 use Rattle.words_law.specs.Owned.{owns, first_view, join_directories, joined}
 use Rattle.words_law.proofs.Joined.{directory_leave}
 use Rattle.words_law.proofs.Items.{items_leave}
-use Rattle.words_law.proofs.Left.{gone_leave, gone_same, gone_start}
+use Rattle.words_law.proofs.GoneSeats.{gone_leave, gone_same, gone_start}
 
 pub meets_both : (u : Ends) (z : Area) (p : Plain) (views : List View)
     → Meets (WordsLaw u z) p views → Meets (Both (WholeLaw u) (DirectoryLaw z)) p views

@@ -1,6 +1,6 @@
 pub mod Below
 pub mod Noted
-pub mod Left
+pub mod GoneSeats
 pub mod Items
 pub mod Joined
 pub mod Law
@@ -15,5 +15,5 @@ pub mod Taken
 pub mod Alive
 pub mod Seats
 pub mod Forgets
-pub mod Pieces
+pub mod TextsTold
 pub mod Living

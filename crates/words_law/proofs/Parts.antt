@@ -35,7 +35,7 @@ use Rattle.words_law.specs.Views.{View, gone, queues, directories}
 use Rattle.words_law.specs.Law.{Gone, HasText, ItemsHaveTexts, WordsLaw, head_of}
 use Rattle.words_law.specs.Pushes.{KeepsAll, KeepsHead, MayPush, PushesBound, SawAll, SawHead}
 use Rattle.words_law.proofs.Noted.{in_cases, taken_append}
-use Rattle.words_law.proofs.Left.{gone_same, gone_set}
+use Rattle.words_law.proofs.GoneSeats.{gone_same, gone_set}
 use Rattle.words_law.proofs.Items.{items_keep, items_push, keeps_text, saw_text}
 use Rattle.words_law.proofs.Law.{meets_both}
 

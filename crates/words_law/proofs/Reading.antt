@@ -35,7 +35,7 @@ use Rattle.words_law.specs.Views.{View, gone, queues, directories}
 use Rattle.words_law.specs.Law.{Gone, WordsLaw}
 use Rattle.words_law.specs.Reading.{HasPopped, BeginReady, BeginTells, begin_next, field_slot}
 use Rattle.words_law.proofs.Noted.{taken_append}
-use Rattle.words_law.proofs.Left.{gone_set}
+use Rattle.words_law.proofs.GoneSeats.{gone_set}
 use Rattle.words_law.proofs.Law.{words_calm}
 use Rattle.words_law.proofs.Parts.{directory_at, directory_here, items_kept, queue_at, queue_same}
 use Rattle.words_law.proofs.Popped.{popped_was_pushed}

@@ -9,7 +9,7 @@ use Rattle.plain_audit.specs.plain_state.declared.slot.SlotId.{SlotId}
 use Rattle.plain_audit.specs.plain_state.Lists.{times}
 use Rattle.plain_audit.specs.plain_state.References.{held_in, over_slots}
 use Rattle.plain_audit.specs.plain_state.State.{new_slot}
-use Rattle.plain_audit.proofs.Below.plain_state.Kit.{held_other, held_same, times_cons, times_none}
+use Rattle.plain_audit.proofs.Below.plain_state_Kit.{held_other, held_same, times_cons, times_none}
 use Rattle.plain_audit.specs.heap_audit.Heaps.{slot}
 use Rattle.words_law.specs.Fold.{added}
 

@@ -9,14 +9,14 @@ use Rattle.plain_audit.specs.plain_state.Lawful.{Lawful}
 use Rattle.plain_audit.specs.plain_state.Lists.{times}
 use Rattle.plain_audit.specs.plain_state.References.{held_in}
 use Rattle.plain_audit.specs.plain_state.State.{Plain, slot_at, stage_at}
-use Rattle.plain_audit.proofs.Below.plain_state.Kit.{cases_slot, held_other, held_same, slot_is, times_cons, times_none}
+use Rattle.plain_audit.proofs.Below.plain_state_Kit.{cases_slot, held_other, held_same, slot_is, times_cons, times_none}
 use Rattle.words_law.specs.directory_law.declared.view.View.{View as DirectoryView}
 use Rattle.words_law.specs.directory_law.Cells.{Area}
 use Rattle.words_law.specs.directory_law.Chains.{Along, OwnSlot}
 use Rattle.words_law.specs.directory_law.Law.{DirectoryLaw}
 use Rattle.words_law.specs.directory_law.Payloads.{IsPart, Text}
-use Rattle.words_law.proofs.Below.directory_law.Chains.{pointed_own, second_live}
-use Rattle.words_law.proofs.Below.directory_law.Kit.{none_some, some_same}
+use Rattle.words_law.proofs.Below.directory_law_Chains.{pointed_own, second_live}
+use Rattle.words_law.proofs.Below.directory_law_Kit.{none_some, some_same}
 use Rattle.plain_audit.specs.Audits.{if_live}
 
 -- from a place on, along field 1, as many slots as a text has

@@ -8,7 +8,7 @@ use Rattle.std.proofs.lemmas.List.{length-map}
 use Rattle.std.proofs.lemmas.Map.Keys.{IsDistinct-cons}
 use Rattle.std.proofs.lemmas.Map.Steps.{length-le_from_distinct_below}
 use Rattle.plain_audit.specs.plain_state.declared.slot.SlotId.{SlotId}
-use Rattle.plain_audit.proofs.Below.plain_state.Kit.{slot_is}
+use Rattle.plain_audit.proofs.Below.plain_state_Kit.{slot_is}
 use Rattle.words_law.specs.directory_law.Views.{Each}
 use Rattle.plain_audit.specs.heap_audit.Paths.{Path}
 

@@ -8,7 +8,7 @@ use Rattle.words_law.specs.directory_law.Bytes.{IsPiece}
 use Rattle.words_law.specs.directory_law.Chains.{Along}
 use Rattle.words_law.specs.directory_law.Payloads.{IsOwn, IsPart, Text}
 use Rattle.words_law.specs.directory_law.Views.{Each}
-use Rattle.words_law.proofs.Below.directory_law.Chains.{part_own, second_live}
+use Rattle.words_law.proofs.Below.directory_law_Chains.{part_own, second_live}
 use Rattle.words_law.specs.Texts.{AllPieces}
 use Rattle.words_rest.proofs.Lengths.{IsFull}
 

@@ -15,10 +15,10 @@ use Rattle.words_law.specs.directory_law.Chains.{OwnSlot, Reads}
 use Rattle.words_law.specs.directory_law.Law.{DirectoryLaw, IsBound}
 use Rattle.words_law.specs.directory_law.Payloads.{IsHead, IsText}
 use Rattle.words_law.specs.directory_law.Views.{keeps}
-use Rattle.words_law.proofs.Below.directory_law.Bytes.{piece_own}
-use Rattle.words_law.proofs.Below.directory_law.Chains.{live_own}
-use Rattle.words_law.proofs.Below.directory_law.Gives.{kept_reads, kept_stands, set_cell}
-use Rattle.words_law.proofs.Below.directory_law.Kept.{kept_counts}
+use Rattle.words_law.proofs.Below.directory_law_Bytes.{piece_own}
+use Rattle.words_law.proofs.Below.directory_law_Chains.{live_own}
+use Rattle.words_law.proofs.Below.directory_law_Gives.{kept_reads, kept_stands, set_cell}
+use Rattle.words_law.proofs.Below.directory_law_Kept.{kept_counts}
 use Rattle.words_law.specs.Law.{head_of}
 use Rattle.words_law.specs.Texts.{AllPieces, HasOneText, IsAlive, all_kept, text_in, word_of_item}
 use Rattle.words_law.specs.Views.{View, directories}
@@ -26,7 +26,7 @@ use Rattle.words_law.proofs.Texts.{has_one}
 use Rattle.words_rest.specs.Nodes.{IsLiveNode}
 use Rattle.words_rest.specs.Records.{word_at}
 use Rattle.words_rest.specs.Rest.{IsLeft}
-use Rattle.words_rest.proofs.Left.{refs_are}
+use Rattle.words_rest.proofs.Referring.{refs_are}
 
 pub live_kind : (p : Plain) → AllPieces p → (s : SlotId) → stage_at p s ≡ Live
     → IsLiveNode p s ⊎ OwnSlot p s

@@ -6,7 +6,7 @@ use Rattle.plain_audit.specs.plain_state.Lawful.{Lawful}
 use Rattle.plain_audit.specs.plain_state.Lists.{times}
 use Rattle.plain_audit.specs.plain_state.References.{over_seats, strong_refs}
 use Rattle.plain_audit.specs.plain_state.State.{Plain, PlainSeat, seat_at, slot_at, new_seat}
-use Rattle.plain_audit.proofs.Below.plain_state.Kit.{seats_at, slot_is, times_none}
+use Rattle.plain_audit.proofs.Below.plain_state_Kit.{seats_at, slot_is, times_none}
 use Rattle.words_law.specs.queue_law.declared.view.Item.{Item}
 use Rattle.words_law.specs.queue_law.Chain.{Ends}
 use Rattle.words_law.specs.directory_law.declared.view.View.{View as DirectoryView}
@@ -14,7 +14,7 @@ use Rattle.words_law.specs.directory_law.Bytes.{AreBytes, text_bytes}
 use Rattle.words_law.specs.directory_law.Cells.{Area}
 use Rattle.words_law.specs.directory_law.Law.{DirectoryLaw}
 use Rattle.words_law.specs.directory_law.Payloads.{Text}
-use Rattle.words_law.proofs.Below.directory_law.Bytes.{text_tells}
+use Rattle.words_law.proofs.Below.directory_law_Bytes.{text_tells}
 use Rattle.words_law.specs.cdrc_text.Fold.{File, holders_in}
 use Rattle.words_law.specs.Known.{KnowsText}
 use Rattle.words_law.specs.Law.{HasText}

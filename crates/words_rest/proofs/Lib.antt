@@ -1,7 +1,7 @@
 pub mod Below
 pub mod Sums
 pub mod Finite
-pub mod Left
+pub mod Referring
 pub mod Heads
 pub mod NoNode
 pub mod Living

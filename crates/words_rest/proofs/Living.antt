@@ -7,20 +7,20 @@ use Rattle.plain_audit.specs.plain_state.Lawful.{Lawful}
 use Rattle.plain_audit.specs.plain_state.Lists.{Entry, times}
 use Rattle.plain_audit.specs.plain_state.References.{held_in, over_slots, strong_fields, strong_refs}
 use Rattle.plain_audit.specs.plain_state.State.{Plain, seat_at, slot_at, stage_at}
-use Rattle.plain_audit.proofs.Below.plain_state.Kit.{held_self, none_by, none_or_some}
+use Rattle.plain_audit.proofs.Below.plain_state_Kit.{held_self, none_by, none_or_some}
 use Rattle.words_law.specs.directory_law.Cells.{Area}
 use Rattle.words_law.specs.directory_law.Chains.{OwnSlot}
 use Rattle.words_law.specs.directory_law.Law.{DirectoryLaw}
 use Rattle.words_law.specs.directory_law.Payloads.{IsHead, IsPart}
 use Rattle.words_law.specs.directory_law.Promises.{Reaches}
-use Rattle.words_law.proofs.Below.directory_law.Chains.{pointed_part}
-use Rattle.words_law.proofs.Below.directory_law.Gives.{parts_stand_once}
-use Rattle.words_law.proofs.Below.directory_law.Kit.{none_some}
+use Rattle.words_law.proofs.Below.directory_law_Chains.{pointed_part}
+use Rattle.words_law.proofs.Below.directory_law_Gives.{parts_stand_once}
+use Rattle.words_law.proofs.Below.directory_law_Kit.{none_some}
 use Rattle.plain_audit.specs.heap_audit.Heaps.{slot}
 use Rattle.plain_audit.specs.heap_audit.Paths.{Path}
 use Rattle.plain_audit.specs.heap_audit.Reached.{HowMany}
-use Rattle.plain_audit.proofs.Below.heap_audit.Going.{leads_on}
-use Rattle.plain_audit.proofs.Below.heap_audit.Leasts.{many_none}
+use Rattle.plain_audit.proofs.Below.heap_audit_Going.{leads_on}
+use Rattle.plain_audit.proofs.Below.heap_audit_Leasts.{many_none}
 use Rattle.plain_audit.specs.Audits.{deferred_entries}
 use Rattle.plain_audit.specs.Reached.{HasField, IsReached, IsRoot, IsUnreached}
 use Rattle.words_law.specs.Texts.{AllPieces}
@@ -29,7 +29,7 @@ use Rattle.words_rest.specs.Nodes.{HasNoNode, IsAllReached, IsLiveNode}
 use Rattle.words_rest.specs.Rest.{IsLeft, Rests}
 use Rattle.words_rest.proofs.Finite.{going_back}
 use Rattle.words_rest.proofs.Heads.{live_kind}
-use Rattle.words_rest.proofs.Left.{owned_all, referrer, refs_are}
+use Rattle.words_rest.proofs.Referring.{owned_all, referrer, refs_are}
 use Rattle.words_rest.proofs.NoNode.{live_low}
 use Rattle.words_rest.proofs.Sums.{seats_none}
 

@@ -14,24 +14,24 @@ use Rattle.plain_audit.specs.plain_state.Places.{content}
 use Rattle.plain_audit.specs.plain_state.References.{held_in, strong_fields}
 use Rattle.plain_audit.specs.plain_state.State.{Plain, new_slot, no_payload, seat_at, slot_at, stage_at}
 use Rattle.plain_audit.specs.plain_state.Steps.{Does, word_of}
-use Rattle.plain_audit.proofs.Below.plain_state.Kit.{none_or_some}
+use Rattle.plain_audit.proofs.Below.plain_state_Kit.{none_or_some}
 use Rattle.plain_audit.specs.plain_protocol.Acts.{IsCalm}
 use Rattle.plain_audit.specs.plain_protocol.Laws.{Meets}
-use Rattle.plain_audit.proofs.Below.plain_protocol.Calm.{calm_leaves}
+use Rattle.plain_audit.proofs.Below.plain_protocol_Calm.{calm_leaves}
 use Rattle.words_law.specs.queue_law.declared.view.View.{View as QueueView}
 use Rattle.words_law.specs.queue_law.Views as queue
 use Rattle.words_law.specs.queue_law.Chain.{Ends}
 use Rattle.words_law.specs.queue_law.Law.{QueueLaw}
 use Rattle.words_law.specs.queue_law.Promises.{Far}
 use Rattle.words_law.specs.queue_law.Words.{code}
-use Rattle.words_law.proofs.Below.queue_law.Cycles.{law_no_cycle}
-use Rattle.words_law.proofs.Below.queue_law.Kit.{word_none}
+use Rattle.words_law.proofs.Below.queue_law_Cycles.{law_no_cycle}
+use Rattle.words_law.proofs.Below.queue_law_Kit.{word_none}
 use Rattle.words_law.specs.directory_law.Cells.{Area}
 use Rattle.words_law.specs.directory_law.Chains.{OwnSlot}
 use Rattle.words_law.specs.directory_law.Payloads.{IsOwn}
-use Rattle.words_law.proofs.Below.directory_law.Bytes.{zeros_not_own}
-use Rattle.words_law.proofs.Below.directory_law.Chains.{pointed_own}
-use Rattle.words_law.proofs.Below.directory_law.Kit.{none_some}
+use Rattle.words_law.proofs.Below.directory_law_Bytes.{zeros_not_own}
+use Rattle.words_law.proofs.Below.directory_law_Chains.{pointed_own}
+use Rattle.words_law.proofs.Below.directory_law_Kit.{none_some}
 use Rattle.plain_audit.specs.heap_audit.declared.finding.Audit.{Audit}
 use Rattle.plain_audit.specs.heap_audit.Heaps.{slot}
 use Rattle.plain_audit.specs.heap_audit.Paths.{Path}
@@ -45,7 +45,7 @@ use Rattle.words_rest.specs.Nodes.{HasNoNode, HasNoNodeAsItem, IsAllReached, IsL
 use Rattle.words_rest.specs.Rest.{IsLeft}
 use Rattle.words_rest.proofs.Finite.{going_back}
 use Rattle.words_rest.proofs.Heads.{live_kind, owned_head}
-use Rattle.words_rest.proofs.Left.{no_cell, no_deferral, owned_all, referrer, refs_are}
+use Rattle.words_rest.proofs.Referring.{no_cell, no_deferral, owned_all, referrer, refs_are}
 use Rattle.words_rest.proofs.Sums.{held_some}
 
 -- where just none of the first numbers has a property

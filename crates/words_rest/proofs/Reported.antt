@@ -15,7 +15,7 @@ use Rattle.plain_audit.specs.plain_state.declared.slot.SlotId.{SlotId}
 use Rattle.plain_audit.specs.plain_state.Lists.{times}
 use Rattle.plain_audit.specs.plain_state.Lawful.{Lawful}
 use Rattle.plain_audit.specs.plain_state.State.{Plain}
-use Rattle.plain_audit.proofs.Below.plain_state.Kit.{cases_slot, held_once, held_other, held_same, times_cons, times_none}
+use Rattle.plain_audit.proofs.Below.plain_state_Kit.{cases_slot, held_once, held_other, held_same, times_cons, times_none}
 use Rattle.words_law.specs.protocol_pairs.Shares.{weight_in_part}
 use Rattle.words_law.specs.queue_law.Chain.{Ends}
 use Rattle.words_law.specs.directory_law.declared.view.View.{View as DirectoryView}
@@ -26,8 +26,8 @@ use Rattle.words_law.specs.cdrc_text.declared.row.Row.{Row}
 use Rattle.words_law.specs.cdrc_text.Fold.{File, IsInByteOrder, holders_in, times as word_times}
 use Rattle.words_law.specs.cdrc_text.Report.{report_of}
 use Rattle.words_law.specs.cdrc_text.Text.{IsReport, IsRowOf, totals_in, word_of}
-use Rattle.words_law.proofs.Below.cdrc_text.Reported.{text-report}
-use Rattle.words_law.proofs.Below.cdrc_text.Unique.{Contains-first, Contains-later, below-later, cases-cons, not-both}
+use Rattle.words_law.proofs.Below.cdrc_text_Reported.{text-report}
+use Rattle.words_law.proofs.Below.cdrc_text_Unique.{Contains-first, Contains-later, below-later, cases-cons, not-both}
 use Rattle.plain_audit.specs.heap_audit.declared.finding.Audit.{Audit}
 use Rattle.plain_audit.specs.Audits.{IsAudit}
 use Rattle.words_law.specs.Views.{View, directories, gone}

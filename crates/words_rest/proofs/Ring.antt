@@ -9,7 +9,7 @@ use Rattle.plain_audit.specs.plain_state.Lawful.{Lawful}
 use Rattle.plain_audit.specs.plain_state.Lists.{entry_times, times}
 use Rattle.plain_audit.specs.plain_state.References.{dying_times, held_in, over_seats, over_slots, own_reference, snapshot_times, strong_fields, strong_refs, weak_fields, weak_refs}
 use Rattle.plain_audit.specs.plain_state.State.{Plain, PlainSeat, new_seat, new_slot, no_payload, seat_at, slot_at, stage_at}
-use Rattle.plain_audit.proofs.Below.plain_state.Kit.{cells_none, entry_none, held_is, held_none, held_self, times_none}
+use Rattle.plain_audit.proofs.Below.plain_state_Kit.{cells_none, entry_none, held_is, held_none, held_self, times_none}
 use Rattle.plain_audit.specs.heap_audit.Heaps.{slot}
 use Rattle.words_rest.proofs.Sums.{seats_none}
 

@@ -4,7 +4,7 @@ use Rattle.std.proofs.lemmas.Bool.{false≢true}
 use Rattle.plain_audit.specs.plain_state.declared.slot.SlotId.{SlotId}
 use Rattle.plain_audit.specs.plain_state.State.{seat_at}
 use Rattle.plain_audit.specs.plain_state.Steps.{word_of}
-use Rattle.plain_audit.proofs.Below.plain_state.Kit.{times_none}
+use Rattle.plain_audit.proofs.Below.plain_state_Kit.{times_none}
 use Rattle.words_law.specs.queue_law.declared.view.Item.{Item}
 use Rattle.words_law.specs.queue_law.declared.view.View.{View as QueueView}
 use Rattle.words_law.specs.queue_law.Views as queue
@@ -17,10 +17,10 @@ use Rattle.words_law.specs.queue_law.Lists.{home, item_times, tagged, taken_item
 use Rattle.words_law.specs.queue_law.Notes.{Carries, Emptied, Flies, Sees}
 use Rattle.words_law.specs.queue_law.Words as words
 use Rattle.words_law.specs.queue_law.Words.{cell_at, id}
-use Rattle.words_law.proofs.Below.queue_law.Leave.{items_none}
-use Rattle.words_law.proofs.Below.queue_law.Notes.{carries_none}
-use Rattle.words_law.proofs.Below.queue_law.Orders.{tagged_none}
-use Rattle.words_law.proofs.Below.queue_law.Start.{zero_total}
+use Rattle.words_law.proofs.Below.queue_law_Leave.{items_none}
+use Rattle.words_law.proofs.Below.queue_law_Notes.{carries_none}
+use Rattle.words_law.proofs.Below.queue_law_Orders.{tagged_none}
+use Rattle.words_law.proofs.Below.queue_law_Start.{zero_total}
 use Rattle.words_law.specs.directory_law.declared.view.View.{View as DirectoryView}
 use Rattle.words_law.specs.directory_law.Cells.{Area, cell, full, on, set_cells}
 use Rattle.words_law.specs.directory_law.Chains.{OwnSlot}
@@ -29,9 +29,9 @@ use Rattle.words_law.specs.directory_law.Law.{DirectoryLaw}
 use Rattle.words_law.specs.directory_law.Payloads.{IsOwn}
 use Rattle.words_law.specs.directory_law.Views as directory
 use Rattle.words_law.specs.directory_law.Views.{In, fresh, keeps, times_of, total}
-use Rattle.words_law.proofs.Below.directory_law.Bytes.{zeros_not_own}
-use Rattle.words_law.proofs.Below.directory_law.Kit.{none_some}
-use Rattle.words_law.proofs.Below.directory_law.Notes.{none_of}
+use Rattle.words_law.proofs.Below.directory_law_Bytes.{zeros_not_own}
+use Rattle.words_law.proofs.Below.directory_law_Kit.{none_some}
+use Rattle.words_law.proofs.Below.directory_law_Notes.{none_of}
 use Rattle.words_law.specs.Views.{View}
 use Rattle.words_rest.specs.Needed.{HasNodeLeft}
 use Rattle.words_rest.specs.Rest.{IsQuiet}

@@ -4,7 +4,7 @@ use Rattle.plain_audit.specs.plain_state.declared.slot.Kind.{Kind}
 use Rattle.plain_audit.specs.plain_state.declared.slot.SlotId.{SlotId}
 use Rattle.plain_audit.specs.plain_state.Lists.{Entry, entry_times}
 use Rattle.plain_audit.specs.plain_state.State.{Plain, seat_at}
-use Rattle.plain_audit.proofs.Below.plain_state.Kit.{entry_cons, entry_none, entry_self}
+use Rattle.plain_audit.proofs.Below.plain_state_Kit.{entry_cons, entry_none, entry_self}
 use Rattle.plain_audit.specs.plain_store.Settling.{IsSettled}
 use Rattle.words_rest.specs.Rest.{IsQuiet, Rests}
 

@@ -9,7 +9,7 @@ use Rattle.plain_audit.specs.plain_state.Lawful.{Lawful}
 use Rattle.plain_audit.specs.plain_state.Lists.{times}
 use Rattle.plain_audit.specs.plain_state.References.{held_in, over_slots}
 use Rattle.plain_audit.specs.plain_state.State.{Plain, seat_at, slot_at, stage_at}
-use Rattle.plain_audit.proofs.Below.plain_state.Kit.{held_other, held_self, times_append, times_cons, times_none}
+use Rattle.plain_audit.proofs.Below.plain_state_Kit.{held_other, held_self, times_append, times_cons, times_none}
 use Rattle.words_law.specs.protocol_pairs.Shares.{weight_in_part}
 use Rattle.words_law.specs.directory_law.Cells.{Area}
 use Rattle.words_law.specs.directory_law.Chains.{Reads}

@@ -10,7 +10,7 @@ use Rattle.plain_audit.specs.plain_state.Lists.{cell_times, holds}
 use Rattle.plain_audit.specs.plain_state.References.{held_in, over_seats, over_slots}
 use Rattle.plain_audit.specs.plain_state.State.{Plain, PlainSeat, new_seat, new_slot, stage_at}
 use Rattle.plain_audit.specs.Audits.{if_live, live_bytes, live_slots}
-use Rattle.plain_audit.proofs.Below.plain_state.Kit.{cells_none, held_is, held_none, none_or_some}
+use Rattle.plain_audit.proofs.Below.plain_state_Kit.{cells_none, held_is, held_none, none_or_some}
 
 -- a number of which no seat has any
 pub seats_none : (f : PlainSeat → ℕ) (vs : List PlainSeat)

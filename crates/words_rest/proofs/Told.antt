@@ -9,7 +9,7 @@ use Rattle.std.proofs.lemmas.List.Elements.{All-head, All-tail}
 use Rattle.std.proofs.lemmas.List.Sums.{sum_by-cons}
 use Rattle.plain_audit.specs.plain_state.declared.slot.SlotId.{SlotId}
 use Rattle.plain_audit.specs.plain_state.Lists.{times}
-use Rattle.plain_audit.proofs.Below.plain_state.Kit.{cases_slot, held_other, none_by, none_or_some, times_append, times_cons, times_none}
+use Rattle.plain_audit.proofs.Below.plain_state_Kit.{cases_slot, held_other, none_by, none_or_some, times_append, times_cons, times_none}
 use Rattle.words_law.specs.directory_law.declared.view.View.{View as DirectoryView}
 use Rattle.words_law.specs.directory_law.Bytes.{AreBytes}
 use Rattle.words_law.specs.cdrc_text.Fold.{File, holders_in}

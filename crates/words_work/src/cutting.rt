@@ -1,7 +1,7 @@
 //! How contents are cut into pieces.
 ghost use Rattle.std.specs.Prelude.{◌≡◌, ◌≤◌, ◌<◌, ◌*◌, ◌+◌, All, IfErr, IfOk, IfSome, length, map};
 ghost use Rattle.lane_reports.specs.cdrc_text.Pieces.{pieces_of};
-ghost use Rattle.lane_reports.specs.lane_files.Files.{HasPieces, pieces_in};
+ghost use Rattle.lane_reports.specs.lane_files.FilePieces.{HasPieces, pieces_in};
 ghost use Rattle.words_work.specs.Cuts.{IsWhyUncut};
 ghost use Rattle.words_work.specs.Limits.{most_pieces, pieces_in_all};
 ghost use Rattle.words_work.specs.Outcomes.{bytes_of};

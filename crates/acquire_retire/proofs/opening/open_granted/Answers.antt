@@ -1,5 +1,5 @@
 use Rattle.std.proofs.Common.{refl}
-use Rattle.dying_slots.proofs.Below.core_functions.FirstBad.{told_bad}
+use Rattle.dying_slots.proofs.Below.core_functions_FirstBad.{told_bad}
 use Rattle.acquire_retire.specs.declared.errors.OpenError.TheVariants.{BadShape}
 use Rattle.acquire_retire.proofs.opening.open_granted.Goals as goal
 

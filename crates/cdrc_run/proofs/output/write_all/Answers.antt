@@ -1,5 +1,5 @@
 use Rattle.std.proofs.Common.{arith, length-drop, ℕ}
-use Rattle.words_work.proofs.Below.lane_gate.Known.{takes_on}
+use Rattle.words_work.proofs.Below.lane_gate_Known.{takes_on}
 use Rattle.cdrc_run.proofs.output.write_all.Goals as goal
 
 pub loop-taken-preserved : goal.loop-taken-preserved

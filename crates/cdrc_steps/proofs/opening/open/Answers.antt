@@ -1,5 +1,5 @@
 use Rattle.std.proofs.Common.{◌≡◌, [], rules, Err}
-use Rattle.cdrc_core.proofs.Below.core_functions.FirstBad.{none_bad}
+use Rattle.cdrc_core.proofs.Below.core_functions_FirstBad.{none_bad}
 use Rattle.cdrc_core.specs.declared.errors.StartError.TheVariants.{BadShape}
 use Rattle.cdrc_steps.specs.Meaning.{quotas_of}
 use Rattle.cdrc_steps.proofs.Quotas.{quotas_fit}

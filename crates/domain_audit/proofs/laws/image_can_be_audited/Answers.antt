@@ -1,4 +1,4 @@
-use Rattle.protected_loads.proofs.Below.core_law.Always.{history_sound}
+use Rattle.protected_loads.proofs.Below.core_law_Always.{history_sound}
 use Rattle.domain_audit.proofs.Showing.{lone_audited}
 use Rattle.domain_audit.proofs.laws.image_can_be_audited.Goals as goal
 

@@ -6,7 +6,7 @@ use Rattle.std.proofs.Common.{ap, sym, ◌∙◌, subst, [], ◌∷◌, ◌++◌
 use Rattle.std.specs.Prelude.{None, Option}
 use Rattle.weak_part_calls.specs.atomic_shared.Places.{named}
 use Rattle.weak_part_calls.specs.core_events.Views.{without}
-use Rattle.weak_part_calls.proofs.Below.core_law.Kit.{times_push}
+use Rattle.weak_part_calls.proofs.Below.core_law_Kit.{times_push}
 use Rattle.weak_part_calls.specs.counted_handles.Handles.{Handle}
 use Rattle.linked_queue.specs.queue_law.declared.view.View.{View}
 use Rattle.linked_queue.specs.queue_law.Pushes.{carried_item}

@@ -5,7 +5,7 @@ use Rattle.std.proofs.Common.{refl, sym, ap, ◌∙◌, subst, arith, inl, inr}
 use Rattle.std.specs.Prelude.{IfOk, None}
 use Rattle.weak_part_calls.specs.plain_state.declared.slot.SlotId.{SlotId}
 use Rattle.weak_part_calls.specs.core_events.declared.view.CoreView.{CoreView}
-use Rattle.weak_part_calls.proofs.Below.acquire_retire.Wholes.{then_ok}
+use Rattle.weak_part_calls.proofs.Below.acquire_retire_Wholes.{then_ok}
 use Rattle.linked_queue.specs.queue_law.Pushes.{carried_item}
 use Rattle.weak_part_calls.specs.part_calls.Parts.{as_part, seen_by}
 use Rattle.linked_queue.proofs.Accepting.{may_still}

@@ -4,7 +4,7 @@ use Rattle.weak_part_calls.specs.plain_state.declared.act.EventPlace.TheVariants
 use Rattle.std.specs.Prelude.{IfOk}
 use Rattle.linked_queue.specs.queue_law.Lessons.{learn_next}
 use Rattle.linked_queue.proofs.Accepting.{kept_all, learn_kept}
-use Rattle.weak_part_calls.proofs.Below.part_calls.Seen.{rest_seen}
+use Rattle.weak_part_calls.proofs.Below.part_calls_Seen.{rest_seen}
 use Rattle.weak_part_calls.specs.part_calls.Parts.{as_part, seen_by}
 use Rattle.std.proofs.Common.{false, ap, subst}
 use Rattle.linked_queue.specs.Cells.{TailTells}

@@ -3,7 +3,7 @@ use Rattle.std.proofs.Common.{true, refl, sym, ap, ◌∙◌, subst, ◌++◌, �
 use Rattle.std.specs.Prelude.{None}
 use Rattle.weak_part_calls.specs.plain_state.declared.slot.SlotId.{SlotId}
 use Rattle.weak_part_calls.specs.core_events.Views.{without}
-use Rattle.weak_part_calls.proofs.Below.core_law.Kit.{times_push}
+use Rattle.weak_part_calls.proofs.Below.core_law_Kit.{times_push}
 use Rattle.linked_queue.specs.queue_law.Pushes.{helped_view}
 use Rattle.weak_part_calls.specs.part_calls.Parts.{seen_by, as_part}
 use Rattle.linked_queue.specs.Leaving.{Leaves}

@@ -4,7 +4,7 @@ use Rattle.weak_part_calls.specs.core_events.declared.view.CoreView.{CoreView}
 use Rattle.linked_queue.specs.Pushes.{IsWhyUnlinked}
 use Rattle.linked_queue.proofs.Linkings.{why_later, why_read}
 use Rattle.linked_queue.proofs.Leavings.{then_err}
-use Rattle.weak_part_calls.proofs.Below.acquire_retire.Wholes.{then_ok}
+use Rattle.weak_part_calls.proofs.Below.acquire_retire_Wholes.{then_ok}
 use Rattle.std.proofs.Common.{subst, inl, inr, refl, ap}
 use Rattle.std.specs.Prelude.{Option}
 use Rattle.weak_part_calls.specs.atomic_weak.Places.{named}

@@ -1,5 +1,5 @@
 use Rattle.std.proofs.Common.{refl, ap}
-use Rattle.weak_part_calls.proofs.Below.part_calls.Seen.{rest_seen}
+use Rattle.weak_part_calls.proofs.Below.part_calls_Seen.{rest_seen}
 use Rattle.weak_part_calls.specs.part_calls.Parts.{as_part, seen_by}
 use Rattle.linked_queue.specs.queue_law.Lessons.{before_next}
 use Rattle.linked_queue.proofs.Accepting.{kept_all}

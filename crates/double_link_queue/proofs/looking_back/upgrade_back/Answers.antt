@@ -1,6 +1,6 @@
 use Rattle.weak_part_calls.specs.atomic_shared.Places.{named}
 use Rattle.double_link_queue.specs.Steps.{CountsBefore, UpgradesBack}
-use Rattle.weak_part_calls.proofs.Below.acquire_retire.Wholes.{then_ok}
+use Rattle.weak_part_calls.proofs.Below.acquire_retire_Wholes.{then_ok}
 use Rattle.std.proofs.Common.{ap, ◌∙◌, ◌≡◌}
 use Rattle.weak_part_calls.specs.core_events.Views.{without}
 use Rattle.linked_queue.specs.queue_law.declared.view.View.{View}

@@ -10,7 +10,7 @@ use Rattle.weak_part_calls.specs.plain_state.declared.slot.SlotId.{SlotId}
 use Rattle.weak_part_calls.specs.plain_state.Lists.{times}
 use Rattle.weak_part_calls.specs.core_events.declared.view.CoreView.{CoreView}
 use Rattle.weak_part_calls.specs.core_events.Views.{without}
-use Rattle.weak_part_calls.proofs.Below.core_law.Kit.{times_push}
+use Rattle.weak_part_calls.proofs.Below.core_law_Kit.{times_push}
 use Rattle.linked_queue.specs.Leaving.{Leaves}
 use Rattle.linked_queue.specs.Nodes.{HasNode}
 use Rattle.linked_queue.specs.Pops.{item_in}

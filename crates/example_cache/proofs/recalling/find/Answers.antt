@@ -1,4 +1,4 @@
-use Rattle.cdrc.proofs.Below.protected_loads.Learning.{room_as}
+use Rattle.cdrc.proofs.Below.protected_loads_Learning.{room_as}
 use Rattle.example_cache.proofs.Finding.{answered_at}
 use Rattle.example_cache.proofs.recalling.find.Goals as goal
 

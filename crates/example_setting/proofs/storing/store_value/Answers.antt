@@ -5,7 +5,7 @@ use Rattle.cdrc.specs.core_events.declared.view.CoreView.{CoreView}
 use Rattle.cdrc.specs.core_events.Steps.{without_given}
 use Rattle.example_setting.proofs.Storings.{gives_made, knows_given}
 use Rattle.example_setting.specs.Setting.{owns}
-use Rattle.cdrc.proofs.Below.slot_store.Sparing.{make_is_spared}
+use Rattle.cdrc.proofs.Below.slot_store_Sparing.{make_is_spared}
 use Rattle.example_setting.proofs.storing.store_value.Goals as goal
 
 pub make-requires-clause-deed : goal.make-requires-clause-deed

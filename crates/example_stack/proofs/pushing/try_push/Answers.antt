@@ -1,7 +1,7 @@
 use Rattle.std.proofs.Common.{◌≡◌, ◌<◌, [], ◌∷◌, ◌++◌, refl, sym, ap, subst, ◌∙◌}
 use Rattle.cdrc.specs.plain_state.Lists.{times}
 use Rattle.cdrc.specs.plain_protocol.Owns.{Object}
-use Rattle.cdrc.proofs.Below.acquire_retire.Wholes.{then_ok}
+use Rattle.cdrc.proofs.Below.acquire_retire_Wholes.{then_ok}
 use Rattle.cdrc.specs.atomic_shared.Places.{named}
 use Rattle.cdrc.specs.domain_rule.Views.{object_in}
 use Rattle.example_stack.specs.Views.{View}

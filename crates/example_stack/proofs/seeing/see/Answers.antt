@@ -1,5 +1,5 @@
 use Rattle.std.proofs.Common.{ap, ℕ, List}
-use Rattle.cdrc.proofs.Below.protected_loads.Learning.{room_as}
+use Rattle.cdrc.proofs.Below.protected_loads_Learning.{room_as}
 use Rattle.example_stack.proofs.Sights.{answered, ready}
 use Rattle.example_stack.proofs.seeing.see.Goals as goal
 

@@ -1,4 +1,4 @@
-use Rattle.cdrc.proofs.Below.slot_store.Sparing.{make_is_spared}
+use Rattle.cdrc.proofs.Below.slot_store_Sparing.{make_is_spared}
 use Rattle.example_cache.specs.Cache.{owns}
 use Rattle.example_tests.proofs.caches.remembered.Goals as goal
 

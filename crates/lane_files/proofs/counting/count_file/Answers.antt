@@ -5,7 +5,7 @@ use Rattle.std.specs.Prelude.{length, slice_index_or, take, []}
 use Rattle.words_protocol.specs.cdrc_text.Text.{slots_of_word}
 use Rattle.lane_files.specs.PieceMakes.{LacksMake}
 use Rattle.lane_files.specs.Counting.{IsWhyStopped}
-use Rattle.lane_files.specs.Files.{pieces_in}
+use Rattle.lane_files.specs.FilePieces.{pieces_in}
 use Rattle.lane_files.specs.Makes.{cause_at}
 use Rattle.lane_files.specs.Next.{CountsNext}
 use Rattle.lane_files.proofs.Counted.{IsCounted, begun, counted_none, counts_on, held_by, stopped_begun}

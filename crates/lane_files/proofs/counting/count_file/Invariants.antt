@@ -1,7 +1,7 @@
 use Rattle.std.proofs.Common.{◌≡◌, ◌+◌}
 use Rattle.std.specs.Prelude.{take}
 use Rattle.lane_files.specs.Ready.{IsReady}
-use Rattle.lane_files.specs.Files.{pieces_in}
+use Rattle.lane_files.specs.FilePieces.{pieces_in}
 use Rattle.lane_files.proofs.Counted.{IsCounted}
 use Rattle.lane_files.proofs.counting.count_file.Given as goal
 

@@ -3,7 +3,7 @@ use Rattle.std.specs.Prelude.{drop, take}
 use Rattle.std.proofs.lemmas.List.{drop_at, take_at}
 use Rattle.std.proofs.lemmas.Result.{err_from_is_err_and}
 use Rattle.control_word.specs.counted_handles.Handles.{Handle}
-use Rattle.control_word.proofs.Below.core_law.Kit.{times_append}
+use Rattle.control_word.proofs.Below.core_law_Kit.{times_append}
 use Rattle.control_word.specs.plain_state.Lists.{times}
 use Rattle.lane_files.specs.Counting.{CountsFile}
 use Rattle.lane_files.specs.Keeping.{GivesUp, slots_of}

@@ -1,9 +1,9 @@
 use Rattle.std.proofs.Common.{List, ◌++◌, ◌∷◌, [], refl, ap, sym, ◌∙◌, append-nil, append_assoc, subst}
 use Rattle.domain_audit.specs.counted_handles.Handles.{Handle}
-use Rattle.domain_audit.proofs.Below.slot_store.Quieting.{no_items}
+use Rattle.domain_audit.proofs.Below.slot_store_Quieting.{no_items}
 use Rattle.lane_domain.specs.lane_files.Keeping.{GivesUp, slots_of}
-use Rattle.lane_domain.proofs.Below.lane_files.Giving.{gives_none}
-use Rattle.lane_domain.proofs.Below.lane_files.SeatsKept.{owns_drop}
+use Rattle.lane_domain.proofs.Below.lane_files_Giving.{gives_none}
+use Rattle.lane_domain.proofs.Below.lane_files_SeatsKept.{owns_drop}
 use Rattle.lane_reports.proofs.Dropped.{gives_more, next_owned}
 use Rattle.lane_reports.proofs.giving.give_all.Goals as goal
 

@@ -1,6 +1,6 @@
 use Rattle.std.proofs.Common.{rules, inr, ◌++◌, ◌∷◌, [], List, append-nil, append_assoc, sym, ap, subst, ◌∙◌, arith, length}
 use Rattle.std.proofs.lemmas.Result.{err_from_is_err_and}
-use Rattle.domain_audit.proofs.Below.slot_store.Quieting.{no_items}
+use Rattle.domain_audit.proofs.Below.slot_store_Quieting.{no_items}
 use Rattle.lane_domain.specs.declared.ending.LaneEnd.{LaneEnd}
 use Rattle.lane_reports.specs.Parting.{AllRan}
 use Rattle.lane_reports.proofs.Ran.{ran_push}

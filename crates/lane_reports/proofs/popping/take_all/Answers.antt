@@ -1,7 +1,7 @@
 use Rattle.std.proofs.Common.{refl, ◌∙◌, arith}
 use Rattle.std.proofs.lemmas.Result.{err_from_is_err_and}
-use Rattle.lane_domain.proofs.Below.lane_files.PiecesCounted.{takes_more, takes_none}
-use Rattle.lane_domain.proofs.Below.lane_files.SeatsKept.{owns_none, owns_on, uses_none, uses_then}
+use Rattle.lane_domain.proofs.Below.lane_files_PiecesCounted.{takes_more, takes_none}
+use Rattle.lane_domain.proofs.Below.lane_files_SeatsKept.{owns_none, owns_on, uses_none, uses_then}
 use Rattle.lane_reports.proofs.TakenAll.{why_after}
 use Rattle.lane_reports.proofs.popping.take_all.Goals as goal
 

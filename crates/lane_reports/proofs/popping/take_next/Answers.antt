@@ -1,6 +1,6 @@
 use Rattle.std.proofs.Common.{refl, ◌∙◌, arith}
-use Rattle.lane_domain.proofs.Below.lane_files.PiecesCounted.{takes_last, takes_next, takes_none}
-use Rattle.lane_domain.proofs.Below.lane_files.SeatsKept.{owns_none, owns_on, uses_none, uses_then}
+use Rattle.lane_domain.proofs.Below.lane_files_PiecesCounted.{takes_last, takes_next, takes_none}
+use Rattle.lane_domain.proofs.Below.lane_files_SeatsKept.{owns_none, owns_on, uses_none, uses_then}
 use Rattle.lane_reports.proofs.popping.take_next.Goals as goal
 
 pub loop-try-init : goal.loop-try-init

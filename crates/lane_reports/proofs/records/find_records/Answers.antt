@@ -1,7 +1,7 @@
 use Rattle.std.proofs.Common.{◌≡◌, Bool, true, ◌∷◌, ◌++◌, [], List, ℕ, length, length-append, append-nil, ap, sym, ◌∙◌, subst, arith}
 use Rattle.std.specs.Borrow.{Bor}
 use Rattle.tally_sums.specs.cdrc_text.Tally.{shown_entries}
-use Rattle.domain_audit.proofs.Below.slot_store.Quieting.{no_items}
+use Rattle.domain_audit.proofs.Below.slot_store_Quieting.{no_items}
 use Rattle.lane_domain.specs.lane_files.Keeping.{slots_of}
 use Rattle.lane_reports.specs.Holders.{has}
 use Rattle.lane_reports.specs.Rows.{sums_in}

@@ -1,5 +1,5 @@
 use Rattle.std.proofs.Common.{◌∷◌, ◌++◌, [], List, length, length-append, append-nil, append_assoc, ap, sym, ◌∙◌, subst, arith}
-use Rattle.domain_audit.proofs.Below.slot_store.Quieting.{no_items}
+use Rattle.domain_audit.proofs.Below.slot_store_Quieting.{no_items}
 use Rattle.lane_reports.specs.declared.records.WordRecord.{WordRecord}
 use Rattle.lane_reports.specs.Rows.{AreRowsOf, IsOwnedBy}
 use Rattle.lane_reports.proofs.Finding.{leaves_on}

@@ -3,8 +3,8 @@ use Rattle.std.specs.Prelude.{length}
 use Rattle.std.proofs.lemmas.Result.{err_from_is_err_and}
 use Rattle.law_lesson.specs.plain_state.Lists.{times}
 use Rattle.domain_audit.specs.core_events.declared.shape.Shape.{Shape}
-use Rattle.domain_audit.proofs.Below.core_law.Each.{length_each}
-use Rattle.domain_audit.proofs.Below.core_law.Kit.{times_none}
+use Rattle.domain_audit.proofs.Below.core_law_Each.{length_each}
+use Rattle.domain_audit.proofs.Below.core_law_Kit.{times_none}
 use Rattle.words_rest.specs.queue_law.declared.view.View.{View as QueueView}
 use Rattle.lane_domain.specs.Opened.{fresh_seat}
 use Rattle.lane_domain.specs.Beginning.{CanBegin}

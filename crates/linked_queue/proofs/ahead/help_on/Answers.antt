@@ -2,7 +2,7 @@ use Rattle.std.proofs.Common.{ap, refl, subst, arith, ℕ}
 use Rattle.std.specs.Prelude.{Option}
 use Rattle.queue_protocol.specs.plain_state.declared.slot.SlotId.{SlotId}
 use Rattle.slot_store.specs.core_events.declared.view.CoreView.{CoreView}
-use Rattle.slot_store.proofs.Below.acquire_retire.Wholes.{then_ok}
+use Rattle.slot_store.proofs.Below.acquire_retire_Wholes.{then_ok}
 use Rattle.part_calls.specs.Parts.{as_part, seen_by}
 use Rattle.linked_queue.specs.Pushes.{Helps, HelpsOn, IsWhyUnlinked, LooksAhead}
 use Rattle.linked_queue.specs.PushLosses.{LosesPassed}

@@ -3,7 +3,7 @@ use Rattle.std.proofs.Common.{[], ◌∷◌, ◌++◌, refl, ap, sym, ◌∙◌,
 use Rattle.std.specs.Prelude.{None}
 use Rattle.queue_protocol.specs.plain_state.declared.slot.SlotId.{SlotId}
 use Rattle.slot_store.specs.core_events.declared.view.CoreView.{CoreView}
-use Rattle.slot_store.proofs.Below.core_law.Kit.{times_push}
+use Rattle.slot_store.proofs.Below.core_law_Kit.{times_push}
 use Rattle.queue_protocol.specs.queue_law.Pushes.{carried_item}
 use Rattle.part_calls.specs.Parts.{as_part, seen_by}
 use Rattle.linked_queue.specs.Pushes.{Links, SeesBehind}

@@ -3,7 +3,7 @@ use Rattle.part_calls.proofs.Seen.{rest_seen}
 use Rattle.part_calls.specs.Parts.{as_part, seen_by}
 use Rattle.std.proofs.Common.{refl, ap}
 use Rattle.queue_protocol.specs.plain_state.declared.act.EventPlace.TheVariants.{Field}
-use Rattle.slot_store.proofs.Below.acquire_retire.Wholes.{then_ok}
+use Rattle.slot_store.proofs.Below.acquire_retire_Wholes.{then_ok}
 use Rattle.part_calls.specs.atomic_shared.Places.{named}
 use Rattle.slot_store.specs.counted_handles.declared.place.Place.TheVariants as place
 use Rattle.part_calls.specs.protected_loads.References.{Loads}

@@ -5,7 +5,7 @@ use Rattle.queue_protocol.specs.plain_state.declared.slot.SlotId.{SlotId}
 use Rattle.slot_store.specs.core_events.declared.shape.Shape.{Shape}
 use Rattle.slot_store.specs.core_events.declared.view.CoreView.{CoreView}
 use Rattle.slot_store.specs.core_events.Views.{without}
-use Rattle.slot_store.proofs.Below.control_word.Finding.{slot_there}
+use Rattle.slot_store.proofs.Below.control_word_Finding.{slot_there}
 use Rattle.linked_queue.specs.Leaving.{Leaves}
 use Rattle.linked_queue.specs.Pushes.{Advances, SeesBehind, advanced_in}
 use Rattle.linked_queue.proofs.Leavings.{copy_leaves, leaves_same}

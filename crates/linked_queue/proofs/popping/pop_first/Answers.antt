@@ -1,6 +1,6 @@
 use Rattle.std.proofs.Common.{◌≡◌, ◌∙◌, inl, inr, ap, sym, subst, arith, ◌+◌}
 use Rattle.queue_protocol.specs.plain_state.declared.slot.SlotId.{SlotId}
-use Rattle.slot_store.proofs.Below.acquire_retire.Wholes.{then_ok}
+use Rattle.slot_store.proofs.Below.acquire_retire_Wholes.{then_ok}
 use Rattle.slot_store.specs.control_word.Resting.{IsSpent}
 use Rattle.part_calls.specs.Parts.{as_part, seen_by}
 use Rattle.linked_queue.specs.declared.queue.PopError.{PopError}

@@ -10,7 +10,7 @@ use Rattle.queue_protocol.specs.plain_state.declared.slot.SlotId.{SlotId}
 use Rattle.queue_protocol.specs.plain_state.Lists.{times}
 use Rattle.slot_store.specs.core_events.declared.view.CoreView.{CoreView}
 use Rattle.slot_store.specs.core_events.Views.{without}
-use Rattle.slot_store.proofs.Below.core_law.Kit.{times_push}
+use Rattle.slot_store.proofs.Below.core_law_Kit.{times_push}
 use Rattle.slot_store.specs.acquire_retire.Seats.{SeatState}
 use Rattle.slot_store.specs.control_word.Resting.{IsSpent}
 use Rattle.queue_protocol.specs.queue_law.declared.view.View.{View}

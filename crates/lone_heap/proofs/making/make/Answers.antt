@@ -1,7 +1,7 @@
 use Rattle.plain_settling.specs.plain_store.Heaps as store
 use Rattle.protected_loads.specs.counted_handles.Handles.{Handle}
 use Rattle.protected_loads.specs.acquire_retire.Calls.{IsSameView, same_view}
-use Rattle.slot_store.proofs.Below.acquire_retire.Wholes.{then_ok}
+use Rattle.slot_store.proofs.Below.acquire_retire_Wholes.{then_ok}
 use Rattle.slot_store.specs.Calls.{Makes}
 use Rattle.lone_heap.specs.Lone.{known_plain}
 use Rattle.lone_heap.proofs.Makes.{full_none, full_same, made_ready, make_shown}

@@ -2,7 +2,7 @@ use Rattle.std.proofs.Common.{◌≡◌}
 use Rattle.plain_settling.specs.plain_store.Calls.{Gains}
 use Rattle.protected_loads.specs.counted_handles.Handles.{Handle}
 use Rattle.protected_loads.specs.acquire_retire.Calls.{IsSameView, same_view}
-use Rattle.slot_store.proofs.Below.acquire_retire.Wholes.{then_ok}
+use Rattle.slot_store.proofs.Below.acquire_retire_Wholes.{then_ok}
 use Rattle.protected_loads.specs.control_word.Calls.{GainsStrong}
 use Rattle.lone_heap.specs.Lone.{known_plain}
 use Rattle.lone_heap.proofs.Owning.{dead_shown, gains_shown, upgrade_ready}

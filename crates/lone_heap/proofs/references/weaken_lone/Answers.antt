@@ -1,7 +1,7 @@
 use Rattle.std.proofs.Common.{◌≡◌}
 use Rattle.plain_settling.specs.plain_store.Calls.{WeaklyGains}
 use Rattle.protected_loads.specs.counted_handles.Handles.{Handle}
-use Rattle.slot_store.proofs.Below.acquire_retire.Wholes.{then_ok}
+use Rattle.slot_store.proofs.Below.acquire_retire_Wholes.{then_ok}
 use Rattle.protected_loads.specs.control_word.Calls.{GainsWeak}
 use Rattle.lone_heap.specs.Lone.{known_plain}
 use Rattle.lone_heap.proofs.Holding.{ready_result}

@@ -1,7 +1,7 @@
 use Rattle.std.proofs.Common.{◌≡◌, ◌∙◌, ap, arith, Some}
 use Rattle.std.proofs.lemmas.Bool.Decides.{nat_tests}
 use Rattle.protected_loads.specs.plain_state.declared.slot.SlotId.{SlotId}
-use Rattle.protected_loads.proofs.Below.plain_state.Kit.{slot_is}
+use Rattle.protected_loads.proofs.Below.plain_state_Kit.{slot_is}
 use Rattle.lone_heap.proofs.words.protects.Goals as goal
 
 pub returns-in-Some : goal.returns-in-Some

@@ -1,5 +1,5 @@
 use Rattle.std.proofs.Common.{ap}
-use Rattle.control_word.proofs.Below.acquire_retire.Wholes.{then_ok}
+use Rattle.control_word.proofs.Below.acquire_retire_Wholes.{then_ok}
 use Rattle.part_calls.proofs.SeenCalls.{gains_seen}
 use Rattle.part_calls.proofs.handles.copy_strong.Goals as goal
 

@@ -4,7 +4,7 @@ use Rattle.slot_store.specs.protocol_pairs.Shares.{owned_of}
 use Rattle.part_calls.specs.Parts.{as_part, seen_by}
 use Rattle.part_calls.proofs.Seen.{lifted_allows, lifted_next, part_seen}
 use Rattle.std.specs.Prelude.{IfOk}
-use Rattle.control_word.proofs.Below.acquire_retire.Wholes.{then_ok}
+use Rattle.control_word.proofs.Below.acquire_retire_Wholes.{then_ok}
 use Rattle.slot_store.specs.Calls.{IsReadyToMake, Makes}
 use Rattle.part_calls.proofs.Beside.{make_beside}
 use Rattle.part_calls.proofs.Readiness.{make_ready}

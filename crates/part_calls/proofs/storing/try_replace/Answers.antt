@@ -6,7 +6,7 @@ use Rattle.part_calls.proofs.Seen.{lifted_allows, lifted_next, part_seen}
 use Rattle.std.specs.Prelude.{Err, IfErr, IfOk, Ok}
 use Rattle.control_word.specs.core_events.declared.act.Act.TheVariants as act
 use Rattle.control_word.specs.acquire_retire.Calls.{IsReady}
-use Rattle.control_word.proofs.Below.acquire_retire.Wholes.{then_ok}
+use Rattle.control_word.proofs.Below.acquire_retire_Wholes.{then_ok}
 use Rattle.atomic_shared.specs.Places.{named, strong_place}
 use Rattle.atomic_shared.specs.retiring_stores.Exchanging.{LosesTo, Replaces}
 use Rattle.atomic_shared.specs.retiring_stores.Scanning.{IsBelow}

@@ -1,6 +1,6 @@
 use Rattle.directory_calls.specs.Directories.{area_of}
 use Rattle.directory_calls.proofs.Parts.{place_of}
-use Rattle.directory_calls.proofs.Below.directory_law.Bytes.{piece_own}
+use Rattle.directory_calls.proofs.Below.directory_law_Bytes.{piece_own}
 use Rattle.record_making.proofs.Made.{head_ready, made_all, made_leaves, made_makes, made_used}
 use Rattle.record_making.proofs.Noted.{misses_here, none_if}
 use Rattle.record_making.proofs.making.make_slot.Goals as goal

@@ -1,6 +1,6 @@
 use Rattle.std.proofs.Common.{ap, refl, sym, subst}
 use Rattle.claim_law.specs.core_events.declared.view.CoreView.{CoreView}
-use Rattle.retiring_stores.proofs.Below.control_word.Owning.{some_more}
+use Rattle.retiring_stores.proofs.Below.control_word_Owning.{some_more}
 use Rattle.protocol_pairs.specs.plain_state.declared.slot.SlotId.{SlotId}
 use Rattle.slot_store.specs.Calls.{Makes}
 use Rattle.slot_store.proofs.Beginning.{apart, begins, is_of_bare, is_of_blank, is_of_full}

@@ -4,8 +4,8 @@ use Rattle.protected_loads.specs.core_events.declared.act.Act.TheVariants as act
 use Rattle.protected_loads.specs.core_events.declared.outcome.Outcome.TheVariants as outcome
 use Rattle.protected_loads.specs.core_events.Views.{Holds}
 use Rattle.protected_loads.specs.acquire_retire.Collecting.{move}
-use Rattle.protected_loads.proofs.Below.control_word.Gaining.{counted, up}
-use Rattle.protected_loads.proofs.Below.control_word.Owning.{some_more}
+use Rattle.protected_loads.proofs.Below.control_word_Gaining.{counted, up}
+use Rattle.protected_loads.proofs.Below.control_word_Owning.{some_more}
 use Rattle.snapshot_ptr.specs.Handles.{StaysUnder}
 use Rattle.snapshot_ptr.proofs.Staying.{stays_with_strong}
 use Rattle.snapshot_ptr.proofs.Under.{has_strongly}

@@ -3,7 +3,7 @@ use Rattle.part_calls.specs.plain_state.declared.slot.SlotId.{SlotId}
 use Rattle.part_calls.specs.plain_state.Lists.{times}
 use Rattle.hand_queues.specs.atomic_weak.Places.{named}
 use Rattle.weak_intern.specs.directory_calls.Steps.{with_found}
-use Rattle.weak_intern.proofs.Below.record_making.Dropped.{dropped}
+use Rattle.weak_intern.proofs.Below.record_making_Dropped.{dropped}
 use Rattle.weak_intern.specs.Walking.{found_by}
 use Rattle.structure_tests.proofs.Returned.{back_again, has_one}
 use Rattle.structure_tests.proofs.text_calls.find_once.Goals as goal

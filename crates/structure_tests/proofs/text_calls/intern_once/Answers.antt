@@ -2,7 +2,7 @@ use Rattle.std.proofs.Common.{◌≡◌, subst}
 use Rattle.part_calls.specs.plain_state.declared.slot.SlotId.{SlotId}
 use Rattle.part_calls.specs.plain_state.Lists.{times}
 use Rattle.weak_intern.specs.directory_calls.Steps.{handle_by, with_found}
-use Rattle.weak_intern.proofs.Below.record_making.Dropped.{dropped}
+use Rattle.weak_intern.proofs.Below.record_making_Dropped.{dropped}
 use Rattle.structure_tests.proofs.Returned.{back_again}
 use Rattle.structure_tests.proofs.text_calls.intern_once.Goals as goal
 

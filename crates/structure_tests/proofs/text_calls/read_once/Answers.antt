@@ -5,8 +5,8 @@ use Rattle.part_calls.specs.plain_state.declared.slot.SlotId.{SlotId}
 use Rattle.part_calls.specs.plain_state.Lists.{times}
 use Rattle.weak_intern.specs.directory_calls.Directories.{area_of}
 use Rattle.weak_intern.specs.directory_calls.Steps.{handle_by, with_found}
-use Rattle.weak_intern.proofs.Below.record_making.Dropped.{dropped}
-use Rattle.weak_intern.proofs.Below.text_reading.LetGo.{least_there}
+use Rattle.weak_intern.proofs.Below.record_making_Dropped.{dropped}
+use Rattle.weak_intern.proofs.Below.text_reading_LetGo.{least_there}
 use Rattle.weak_intern.specs.Sighting.{seat_without}
 use Rattle.weak_intern.proofs.Looked.{look_free, look_saw, look_sighted}
 use Rattle.weak_intern.proofs.Sights.{free_still}

@@ -1,7 +1,7 @@
 use Rattle.std.proofs.Common.{ap, arith, ◌+◌}
 use Rattle.part_calls.specs.core_events.declared.view.CoreView.{CoreView}
 use Rattle.weak_intern.specs.directory_calls.Steps.{aside}
-use Rattle.weak_intern.proofs.Below.text_reading.LetGo.{least_there}
+use Rattle.weak_intern.proofs.Below.text_reading_LetGo.{least_there}
 use Rattle.weak_intern.proofs.Looked.{look_sighted}
 use Rattle.structure_tests.proofs.Seen.{owned_after, under_after}
 use Rattle.structure_tests.proofs.text_calls.slot_in.Goals as goal

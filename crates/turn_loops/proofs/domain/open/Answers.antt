@@ -1,6 +1,6 @@
 use Rattle.std.proofs.Common.{ap, subst, sym}
 use Rattle.slot_store.specs.core_events.Runs.{IsShape}
-use Rattle.slot_store.proofs.Below.control_word.Beginning.{all_at_rest}
+use Rattle.slot_store.proofs.Below.control_word_Beginning.{all_at_rest}
 use Rattle.turn_loops.specs.Free.{IsFree}
 use Rattle.turn_loops.proofs.Placings.{all_of_threads, opened_are, opened_enough, root_free, workers_free}
 use Rattle.turn_loops.proofs.domain.open.Goals as goal

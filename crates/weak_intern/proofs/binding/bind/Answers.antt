@@ -1,10 +1,10 @@
 use Rattle.std.proofs.Common.{◌∙◌, arith, subst, sym}
 use Rattle.record_making.specs.directory_calls.Directories.{area_of}
-use Rattle.record_making.proofs.Below.directory_law.Bytes.{text_is}
+use Rattle.record_making.proofs.Below.directory_law_Bytes.{text_is}
 use Rattle.record_making.specs.Texts.{text_of}
 use Rattle.weak_intern.specs.Races.{MissesCell}
 use Rattle.weak_intern.proofs.Bound.{bound_after, bound_client, bound_leaves, bound_makes, lost_client, lost_leaves, lost_makes, lost_misses, ready}
-use Rattle.record_making.proofs.Below.directory_calls.Parts.{place_of}
+use Rattle.record_making.proofs.Below.directory_calls_Parts.{place_of}
 use Rattle.weak_intern.proofs.binding.bind.Goals as goal
 
 pub try_replace_weak-requires-clause-deed : goal.try_replace_weak-requires-clause-deed

@@ -1,6 +1,6 @@
 use Rattle.std.proofs.Common.{refl, arith, ◌+◌, ◌≡◌}
 use Rattle.weak_intern.proofs.Compared.{all_same, one_read, one_same, read_compares, read_leaves, read_makes}
-use Rattle.record_making.proofs.Below.directory_law.Kit.{false≢true}
+use Rattle.record_making.proofs.Below.directory_law_Kit.{false≢true}
 use Rattle.weak_intern.proofs.comparing.is_payload.Goals as goal
 
 pub returns-then-read-payload-clause-compares : goal.returns-then-read-payload-clause-compares

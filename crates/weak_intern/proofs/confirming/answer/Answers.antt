@@ -1,7 +1,7 @@
 use Rattle.std.proofs.Common.{ap, subst, sym}
 use Rattle.record_making.specs.directory_law.Lessons.{spent}
 use Rattle.record_making.specs.directory_calls.Directories.{CanCount, area_of}
-use Rattle.record_making.proofs.Below.directory_calls.Parts.{part_as, place_of}
+use Rattle.record_making.proofs.Below.directory_calls_Parts.{part_as, place_of}
 use Rattle.atomic_weak.specs.plain_state.declared.act.EventPlace.TheVariants.{Field}
 use Rattle.weak_intern.proofs.Confirmed.{answer_learns, answer_live, answer_ready, look_adds, look_leaves, look_makes, look_rest}
 use Rattle.weak_intern.proofs.confirming.answer.Goals as goal

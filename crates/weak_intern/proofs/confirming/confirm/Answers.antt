@@ -4,8 +4,8 @@ use Rattle.record_making.specs.directory_law.Payloads.{Text}
 use Rattle.record_making.specs.directory_calls.Steps.{AtStep}
 use Rattle.weak_intern.specs.Seeing.{HasSeenIn}
 use Rattle.record_making.specs.directory_calls.Directories.{area_of}
-use Rattle.record_making.proofs.Below.directory_calls.Parts.{place_of}
-use Rattle.record_making.proofs.Below.directory_law.Bytes.{text_is}
+use Rattle.record_making.proofs.Below.directory_calls_Parts.{place_of}
+use Rattle.record_making.proofs.Below.directory_law_Bytes.{text_is}
 use Rattle.record_making.specs.Texts.{text_of}
 use Rattle.record_making.proofs.Dropped.{adds_still, dropped, makes_still}
 use Rattle.text_reading.specs.Reading.{HasRead}

@@ -1,5 +1,5 @@
 use Rattle.record_making.specs.directory_calls.Directories.{area_of}
-use Rattle.record_making.proofs.Below.directory_calls.Parts.{place_of}
+use Rattle.record_making.proofs.Below.directory_calls_Parts.{place_of}
 use Rattle.weak_intern.proofs.Drawn.{draw_draws, draw_ready, draw_rest}
 use Rattle.weak_intern.proofs.drawing.draw.Goals as goal
 

@@ -6,7 +6,7 @@ use Rattle.record_making.specs.Texts.{text_of}
 use Rattle.record_making.proofs.Noted.{on_err, same_refusal}
 use Rattle.record_making.proofs.Dropped.{dropped, makes_still}
 use Rattle.weak_intern.proofs.Added.{dropped_known, dropped_leaves, dropped_places, err_grows, err_leaves, found_some, is_err, knows_still, noted_made, ok_grows, ok_leaves, ok_places, owned_then, passed_made, placed_knows, quota_made, refused_grows}
-use Rattle.record_making.proofs.Below.directory_calls.Parts.{place_of}
+use Rattle.record_making.proofs.Below.directory_calls_Parts.{place_of}
 use Rattle.weak_intern.proofs.Placed.{grows_as}
 use Rattle.std.specs.Int.{div_ceil}
 use Rattle.atomic_weak.specs.core_events.declared.view.CoreView.{CoreView}

@@ -9,7 +9,7 @@ use Rattle.record_making.proofs.Noted.{misses_after}
 use Rattle.record_making.proofs.Packed.{is_text_of}
 use Rattle.weak_intern.proofs.Heads.{sought_is}
 use Rattle.weak_intern.proofs.Interned.{absent_learns, absent_leaves, absent_none, added_grows, added_leaves, added_none, all_interns, all_knows, answered_owned, walked_interns, walked_knows, walked_owned}
-use Rattle.record_making.proofs.Below.directory_calls.Parts.{place_of}
+use Rattle.record_making.proofs.Below.directory_calls_Parts.{place_of}
 use Rattle.std.specs.Int.{div_ceil}
 use Rattle.atomic_weak.specs.core_events.declared.view.CoreView.{CoreView}
 use Rattle.weak_intern.proofs.Races.{few_left, short_then}

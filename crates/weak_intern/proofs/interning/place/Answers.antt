@@ -2,7 +2,7 @@ use Rattle.std.proofs.Common.{ap, arith, ◌+◌, ◌∙◌, None, refl, subst, 
 use Rattle.std.specs.Prelude.{Ok}
 use Rattle.std.proofs.lemmas.Result.{err_from_is_err_and}
 use Rattle.record_making.specs.directory_calls.Directories.{area_of}
-use Rattle.record_making.proofs.Below.directory_calls.Parts.{place_of}
+use Rattle.record_making.proofs.Below.directory_calls_Parts.{place_of}
 use Rattle.record_making.specs.Texts.{text_of}
 use Rattle.weak_intern.specs.Races.{IsWhyShort}
 use Rattle.weak_intern.proofs.Found.{at_cell}

@@ -1,6 +1,6 @@
 use Rattle.std.proofs.Common.{arith, ◌∙◌, ◌+◌}
 use Rattle.record_making.specs.directory_calls.Directories.{area_of}
-use Rattle.record_making.proofs.Below.directory_calls.Parts.{place_of, zero_then}
+use Rattle.record_making.proofs.Below.directory_calls_Parts.{place_of, zero_then}
 use Rattle.record_making.specs.Texts.{text_of}
 use Rattle.text_reading.proofs.LetGo.{least_there}
 use Rattle.weak_intern.specs.Walking.{met_by, taken_by}

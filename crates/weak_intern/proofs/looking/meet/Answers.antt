@@ -1,6 +1,6 @@
 use Rattle.std.proofs.Common.{ap, inl, ◌∙◌, None, arith, refl}
 use Rattle.record_making.specs.directory_calls.Directories.{area_of}
-use Rattle.record_making.proofs.Below.directory_calls.Parts.{place_of}
+use Rattle.record_making.proofs.Below.directory_calls_Parts.{place_of}
 use Rattle.record_making.specs.Texts.{text_of}
 use Rattle.atomic_weak.specs.core_events.declared.view.CoreView.{CoreView}
 use Rattle.weak_intern.specs.Walking.{met_by}

@@ -1,7 +1,7 @@
 use Rattle.std.proofs.Common.{ap, subst, sym, ◌∙◌, arith}
 use Rattle.std.specs.Prelude.{Err}
 use Rattle.record_making.specs.directory_calls.Directories.{area_of}
-use Rattle.record_making.proofs.Below.directory_calls.Parts.{place_of, zero_then}
+use Rattle.record_making.proofs.Below.directory_calls_Parts.{place_of, zero_then}
 use Rattle.record_making.specs.Texts.{text_of}
 use Rattle.text_reading.specs.Reading.{HasBegun}
 use Rattle.weak_intern.specs.Sighting.{Raises, added, seat_without}

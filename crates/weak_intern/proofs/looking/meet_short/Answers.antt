@@ -1,8 +1,8 @@
 use Rattle.std.proofs.Common.{ap, arith, subst, ◌∙◌}
 use Rattle.std.specs.Prelude.{Err}
 use Rattle.record_making.specs.directory_calls.Directories.{area_of}
-use Rattle.record_making.proofs.Below.directory_calls.Parts.{place_of}
-use Rattle.record_making.proofs.Below.directory_law.Bytes.{text_is}
+use Rattle.record_making.proofs.Below.directory_calls_Parts.{place_of}
+use Rattle.record_making.proofs.Below.directory_law_Bytes.{text_is}
 use Rattle.record_making.specs.Texts.{text_of}
 use Rattle.weak_intern.specs.Sighting.{Raises, added}
 use Rattle.weak_intern.proofs.Meeting.{ended_met, record_met}

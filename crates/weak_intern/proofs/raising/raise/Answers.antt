@@ -1,7 +1,7 @@
 use Rattle.std.proofs.Common.{ap, sym, subst}
 use Rattle.record_making.specs.directory_calls.Directories.{CanCount, area_of}
 use Rattle.weak_intern.specs.Walking.{raised_by}
-use Rattle.record_making.proofs.Below.directory_calls.Parts.{part_as, place_of}
+use Rattle.record_making.proofs.Below.directory_calls_Parts.{part_as, place_of}
 use Rattle.weak_intern.proofs.LetGo.{sighted_held}
 use Rattle.weak_intern.proofs.Letting.{raised_begun, raised_core, raised_ended, raised_known, raised_learns, raised_live, raised_objects, raised_same}
 use Rattle.weak_intern.proofs.Raised.{ready}

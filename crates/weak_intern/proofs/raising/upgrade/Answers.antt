@@ -1,5 +1,5 @@
 use Rattle.std.proofs.Common.{refl}
-use Rattle.atomic_weak.proofs.Below.control_word.Gaining.{counted, found_ended}
+use Rattle.atomic_weak.proofs.Below.control_word_Gaining.{counted, found_ended}
 use Rattle.weak_intern.proofs.raising.upgrade.Goals as goal
 
 pub returns-in-Up-clause-upgraded : goal.returns-in-Up-clause-upgraded

@@ -1,7 +1,7 @@
 use Rattle.std.proofs.Common.{sym, subst, ◌∙◌, ◌<◌, arith}
 use Rattle.record_making.specs.directory_calls.Directories.{area_of}
-use Rattle.record_making.proofs.Below.directory_calls.Parts.{place_of}
-use Rattle.text_reading.proofs.Below.snapshot_ptr.Under.{least_is_free}
+use Rattle.record_making.proofs.Below.directory_calls_Parts.{place_of}
+use Rattle.text_reading.proofs.Below.snapshot_ptr_Under.{least_is_free}
 use Rattle.weak_intern.proofs.Seen.{after_found, after_null, ready}
 use Rattle.weak_intern.proofs.seeing.see.Goals as goal
 

@@ -1,6 +1,6 @@
 use Rattle.record_making.specs.directory_calls.Directories.{area_of}
 use Rattle.weak_intern.proofs.Found.{around_adds, around_client, around_ends, around_leaves, around_makes, around_rest, around_room}
-use Rattle.record_making.proofs.Below.directory_calls.Parts.{place_of}
+use Rattle.record_making.proofs.Below.directory_calls_Parts.{place_of}
 use Rattle.weak_intern.proofs.walking.come_around.Goals as goal
 
 pub returns-clause-ends : goal.returns-clause-ends

@@ -4,7 +4,7 @@ use Rattle.std.proofs.lemmas.Result.{err_from_is_err_and}
 use Rattle.record_making.specs.directory_calls.Directories.{area_of}
 use Rattle.record_making.specs.Texts.{text_of}
 use Rattle.weak_intern.proofs.Found.{around_found, at_cell, null_found, null_leaves, other_passed, record_costs, record_found, record_leaves, refused_learns, refused_leaves, walk_leaves, walks_none}
-use Rattle.record_making.proofs.Below.directory_calls.Parts.{place_of}
+use Rattle.record_making.proofs.Below.directory_calls_Parts.{place_of}
 use Rattle.weak_intern.proofs.walking.seek.Goals as goal
 
 pub returns-in_err-look-clause-learns : goal.returns-in_err-look-clause-learns

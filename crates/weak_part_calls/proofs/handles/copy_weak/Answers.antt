@@ -1,5 +1,5 @@
 use Rattle.std.proofs.Common.{ap}
-use Rattle.control_word.proofs.Below.acquire_retire.Wholes.{then_ok}
+use Rattle.control_word.proofs.Below.acquire_retire_Wholes.{then_ok}
 use Rattle.weak_part_calls.proofs.WeakCalls.{gains_weak_seen}
 use Rattle.weak_part_calls.proofs.handles.copy_weak.Goals as goal
 

@@ -4,7 +4,7 @@ use Rattle.part_calls.specs.protocol_pairs.Shares.{owned_of}
 use Rattle.part_calls.specs.Parts.{as_part, seen_by}
 use Rattle.part_calls.proofs.Seen.{lifted_allows, part_seen}
 use Rattle.std.specs.Prelude.{Err, IfOk}
-use Rattle.control_word.proofs.Below.acquire_retire.Wholes.{then_ok}
+use Rattle.control_word.proofs.Below.acquire_retire_Wholes.{then_ok}
 use Rattle.control_word.specs.core_events.Words.{slot_in}
 use Rattle.control_word.specs.counted_handles.declared.refusal.LoadError.TheVariants as refused
 use Rattle.atomic_weak.specs.Places.{named, weak_place}

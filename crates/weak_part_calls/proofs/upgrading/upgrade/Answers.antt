@@ -4,7 +4,7 @@ use Rattle.part_calls.specs.protocol_pairs.Parts.{Accepts}
 use Rattle.part_calls.specs.protocol_pairs.Shares.{owned_of}
 use Rattle.control_word.specs.core_events.declared.act.Act.TheVariants as act
 use Rattle.control_word.specs.acquire_retire.Calls.{IsReady}
-use Rattle.control_word.proofs.Below.acquire_retire.Wholes.{then_ok}
+use Rattle.control_word.proofs.Below.acquire_retire_Wholes.{then_ok}
 use Rattle.control_word.specs.declared.upgrading.UpgradeError.TheVariants as refused
 use Rattle.control_word.specs.Calls.{FindsEnded, GainsStrong}
 use Rattle.part_calls.specs.Parts.{as_part, seen_by}

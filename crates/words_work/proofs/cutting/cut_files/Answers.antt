@@ -2,7 +2,7 @@ use Rattle.std.proofs.Common.{◌≡◌, ◌++◌, ◌∷◌, [], All, List, ℕ
 use Rattle.std.proofs.lemmas.List.{length-map, map-append}
 use Rattle.std.proofs.lemmas.List.Elements.{All-push}
 use Rattle.lane_reports.specs.cdrc_text.Pieces.{bytes_at, pieces_of}
-use Rattle.lane_reports.specs.lane_files.Files.{HasPieces, pieces_in}
+use Rattle.lane_reports.specs.lane_files.FilePieces.{HasPieces, pieces_in}
 use Rattle.words_work.specs.Limits.{pieces_in_all}
 use Rattle.words_work.specs.Outcomes.{bytes_of}
 use Rattle.words_work.proofs.Sizes.{pieces_push}

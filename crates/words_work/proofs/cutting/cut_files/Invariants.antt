@@ -1,6 +1,6 @@
 use Rattle.std.proofs.Common.{◌≡◌, ◌≤◌, ◌+◌, ◌++◌, All, length, map, vec_capacity, vec_len}
 use Rattle.lane_reports.specs.cdrc_text.Pieces.{pieces_of}
-use Rattle.lane_reports.specs.lane_files.Files.{HasPieces, pieces_in}
+use Rattle.lane_reports.specs.lane_files.FilePieces.{HasPieces, pieces_in}
 use Rattle.words_work.specs.Limits.{most_pieces, pieces_in_all}
 use Rattle.words_work.specs.Outcomes.{bytes_of}
 use Rattle.words_work.proofs.cutting.cut_files.Given as goal

@@ -1,5 +1,5 @@
 use Rattle.std.proofs.Common.{refl, rules}
-use Rattle.core_views.proofs.Below.core_functions.FirstBad.{told_bad}
+use Rattle.core_views.proofs.Below.core_functions_FirstBad.{told_bad}
 use Rattle.cdrc_core.specs.declared.errors.StartError.TheVariants.{BadShape}
 use Rattle.cdrc_core.proofs.Starting.{started_kept}
 use Rattle.cdrc_core.proofs.machine.Core.start_granted.Goals as goal

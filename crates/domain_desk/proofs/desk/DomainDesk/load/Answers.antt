@@ -1,7 +1,7 @@
 use Rattle.std.proofs.Common.{◌≡◌, refl, rules}
 use Rattle.script_desk.specs.plain_state.declared.slot.Kind.TheVariants as kind
 use Rattle.script_desk.specs.plain_state.Places.{place_kind}
-use Rattle.lone_heap.proofs.Below.acquire_retire.Wholes.{then_ok}
+use Rattle.lone_heap.proofs.Below.acquire_retire_Wholes.{then_ok}
 use Rattle.script_desk.specs.script_lines.declared.command.Command.TheVariants as command
 use Rattle.script_desk.specs.declared.said.Said.{Said}
 use Rattle.script_desk.specs.Effects.{Acts, LoadsStrong, LoadsWeak}

@@ -1,5 +1,5 @@
 use Rattle.linked_queue.specs.queue_law.Views.{first_view}
-use Rattle.weak_part_calls.proofs.Below.part_calls.Beside.{stays_beside}
+use Rattle.weak_part_calls.proofs.Below.part_calls_Beside.{stays_beside}
 use Rattle.weak_part_calls.specs.part_calls.Parts.{as_part, seen_by}
 use Rattle.std.proofs.Common.{inr, refl, sym, subst, ap, ◌∙◌}
 use Rattle.std.specs.Prelude.{Some, None}

@@ -6,7 +6,7 @@ use Rattle.linked_queue.specs.queue_law.declared.view.View.{View}
 use Rattle.linked_queue.specs.queue_law.Pushes.{carried_item}
 use Rattle.linked_queue.specs.queue_law.Views.{first_view}
 use Rattle.weak_part_calls.specs.part_calls.Parts.{seen_by, as_part}
-use Rattle.weak_part_calls.proofs.Below.part_calls.Beside.{stays_beside}
+use Rattle.weak_part_calls.proofs.Below.part_calls_Beside.{stays_beside}
 use Rattle.linked_queue.specs.Pops.{item_in}
 use Rattle.linked_queue.specs.Pushes.{pushed_too}
 use Rattle.linked_queue.specs.Queues.{deeds_in}

@@ -1,6 +1,6 @@
 use Rattle.std.proofs.Common.{◌∙◌}
 use Rattle.linked_queue.specs.queue_law.Views.{first_view}
-use Rattle.weak_part_calls.proofs.Below.part_calls.Beside.{stays_beside}
+use Rattle.weak_part_calls.proofs.Below.part_calls_Beside.{stays_beside}
 use Rattle.std.specs.Prelude.{None}
 use Rattle.weak_part_calls.specs.part_calls.Parts.{seen_by}
 use Rattle.linked_queue.proofs.Poppings.{leaves_then}

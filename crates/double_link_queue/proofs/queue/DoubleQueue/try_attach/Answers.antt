@@ -1,5 +1,5 @@
 use Rattle.linked_queue.specs.queue_law.Views.{first_view}
-use Rattle.weak_part_calls.proofs.Below.part_calls.Beside.{stays_beside}
+use Rattle.weak_part_calls.proofs.Below.part_calls_Beside.{stays_beside}
 use Rattle.double_link_queue.proofs.queue.DoubleQueue.try_attach.Goals as goal
 
 pub returns-clause-beside : goal.returns-clause-beside

@@ -1,5 +1,5 @@
 use Rattle.linked_queue.specs.queue_law.Views.{first_view}
-use Rattle.weak_part_calls.proofs.Below.part_calls.Beside.{stays_beside}
+use Rattle.weak_part_calls.proofs.Below.part_calls_Beside.{stays_beside}
 use Rattle.weak_part_calls.specs.part_calls.Parts.{seen_by}
 use Rattle.double_link_queue.proofs.Pushings.{handed_back, push_attached}
 use Rattle.double_link_queue.proofs.queue.DoubleQueue.try_push.Goals as goal

@@ -9,7 +9,7 @@ use Rattle.plain_audit.specs.plain_state.Lawful.{Lawful}
 use Rattle.plain_audit.specs.plain_state.Lists.{cell_times, entry_times, times}
 use Rattle.plain_audit.specs.plain_state.References.{deferrals, dying_times, held_in, over_seats, over_slots, strong_fields, strong_refs}
 use Rattle.plain_audit.specs.plain_state.State.{Plain, seat_at, slot_at, stage_at}
-use Rattle.plain_audit.proofs.Below.plain_state.Kit.{entry_none, held_none, none_or_some, times_none}
+use Rattle.plain_audit.proofs.Below.plain_state_Kit.{entry_none, held_none, none_or_some, times_none}
 use Rattle.words_law.specs.Views.{View}
 use Rattle.words_rest.specs.Rest.{IsLeft}
 use Rattle.words_rest.proofs.Sums.{held_some, null_cells, seats_none, seats_root, some_slot}
