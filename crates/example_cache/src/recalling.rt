@@ -1,11 +1,12 @@
 //! A value is recalled, as long as its object lives.
-ghost use Rattle.std.specs.Prelude.{ℕ, ◌≡◌, ◌≤◌, ◌+◌, ◌<◌, ◌↔◌, Err, IfOk};
+ghost use Rattle.std.specs.Prelude.{ℕ, ◌≡◌, ◌≤◌, ◌+◌, ◌<◌, ◌++◌, ◌∷◌, ◌↔◌, [], Err, IfOk, OnErr};
 ghost use Rattle.cdrc.specs.core_events.Steps.{HasRoom};
+ghost use Rattle.cdrc.specs.core_events.Views.{without};
 ghost use Rattle.cdrc.specs.core_events.Words.{slot_in};
 ghost use Rattle.cdrc.specs.counted_handles.declared.refusal.LoadError.TheVariants as refused;
 ghost use Rattle.cdrc.specs.control_word.Moves.{KnowsStill};
 ghost use Rattle.cdrc.specs.control_word.Resting.{IsAtRest, IsSpent};
-ghost use Rattle.example_cache.specs.Calls.{Finds, FoundEnded, HasEnded, Moves, Recalls, strong_named, weak_named};
+ghost use Rattle.example_cache.specs.Calls.{Finds, FoundEnded, HasEnded, Moves, OwnsWith, Recalls, answered, strong_named, weak_named};
 ghost use Rattle.example_cache.specs.declared.recalling.RecallError.TheVariants as no_recall;
 ghost use Rattle.cdrc.specs.control_word.declared.upgrading.UpgradeError.TheVariants as no_raise;
 ghost use Rattle.cdrc.specs.domain_rule.Views.{object_in};
@@ -42,7 +43,8 @@ pub fn recall<K: PayloadKind>(
     requires room { HasRoom seat.old.view.core }
     requires cell { cell ≡ domain.now.protocol.cell }
     requires there { cell < domain.now.shape.weak_cells }
-    ensures recalled { IfOk result (λ found. Recalls (strong_named found) seat.old seat.new) }
+    ensures recalled { IfOk result (λ found. Recalls K.fits domain.now
+        domain.now.protocol.cell (strong_named found) seat.old seat.new) }
     ensures ended { result ≡ Err no_recall.Ended → FoundEnded K.fits domain.now
         domain.now.protocol.cell seat.old }
     ensures moved { (seen now : ℕ) → result ≡ Err (no_recall.Moved seen now)
@@ -51,6 +53,7 @@ pub fn recall<K: PayloadKind>(
     ensures spent { result ≡ Err no_recall.Spent
         → seat.old.view.core.quota.adds ≤ seat.old.view.core.adds + 1 }
     ensures remembered { seat.new.view.client.remembered ≡ seat.old.view.client.remembered }
+    ensures owns { OwnsWith (answered result) seat.old seat.new }
     ensures room { HasRoom seat.new.view.core }
     ensures rest { IsAtRest domain.now seat.new }
 {
@@ -84,6 +87,11 @@ fn raise<K: PayloadKind>(
     ensures ended { result ≡ Err no_raise.Ended → HasEnded K.fits domain.now weak.slot seat.old }
     ensures spent { result ≡ Err no_raise.Spent → IsSpent seat.old.view.core }
     ensures client { seat.new.view.client ≡ seat.old.view.client }
+    ensures gains { IfOk result (λ strong. seat.new.view.core.owned
+        ≡ seat.old.view.core.owned ++ strong.slot ∷ []) }
+    ensures still { OnErr result (seat.new.view.core.owned ≡ seat.old.view.core.owned) }
+    ensures gives { seat.new.view.core.weaks ≡ without weak.slot seat.old.view.core.weaks }
+    ensures notes { seat.new.view.core.notes ≡ seat.old.view.core.notes }
     ensures room { HasRoom seat.new.view.core }
     ensures rest { IsAtRest domain.now seat.new }
 {
@@ -121,6 +129,8 @@ fn find<K: PayloadKind>(
         → Moves K.fits domain.now domain.now.protocol.cell (slot_in seen) (slot_in now)
         seat.old seat.new }
     ensures spent { (result ≡ Err refused.Spent) ↔ IsSpent seat.old.view.core }
+    ensures refused { result ≡ Err refused.Spent → seat.new ≡ seat.old }
+    ensures notes { seat.new.view.core.notes ≡ seat.old.view.core.notes }
     ensures remembered { seat.new.view.client.remembered ≡ seat.old.view.client.remembered }
     ensures objects { KnowsStill seat.old.view.core seat.old seat.new }
     ensures room { HasRoom seat.new.view.core }

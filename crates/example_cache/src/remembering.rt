@@ -1,10 +1,11 @@
 //! A value is remembered weakly.
 ghost use Rattle.std.specs.Prelude.{◌≡◌, ◌<◌, ◌↔◌, IfOk, IsErr, OnErr};
 ghost use Rattle.cdrc.specs.plain_state.Lists.{times};
+ghost use Rattle.cdrc.specs.plain_state.declared.slot.SlotId.{SlotId};
 ghost use Rattle.cdrc.specs.core_events.Steps.{HasRoom};
 ghost use Rattle.cdrc.specs.control_word.Resting.{IsAtRest, IsSpent};
 ghost use Rattle.cdrc.specs.domain_rule.Views.{object_in};
-ghost use Rattle.example_cache.specs.Calls.{remembered_too};
+ghost use Rattle.example_cache.specs.Calls.{RemembersSlot, remembered_too};
 
 use crate::deeds::RememberValue;
 use crate::law::CacheLaw;
@@ -29,7 +30,12 @@ pub fn remember<K: PayloadKind>(
     ensures remembered { IfOk result (λ done. seat.new.view.client
         ≡ remembered_too (object_in seat.old.view object.now.slot).payload
         seat.old.view.client) }
+    ensures put { IfOk result (λ done. RemembersSlot K.fits domain.now domain.now.protocol.cell
+        object.now.slot seat.old seat.new) }
     ensures owned { seat.new.view.core.owned ≡ seat.old.view.core.owned }
+    ensures weaks { (x : SlotId) → times x seat.new.view.core.weaks
+        ≡ times x seat.old.view.core.weaks }
+    ensures notes { seat.new.view.core.notes ≡ seat.old.view.core.notes }
     ensures known { object_in seat.new.view object.now.slot
         ≡ object_in seat.old.view object.now.slot }
     ensures room { HasRoom seat.new.view.core }

@@ -32,8 +32,8 @@ use Rattle.cdrc.specs.snapshot_ptr.Taking.{IsReadyToTake, Takes, word_taken}
 use Rattle.cdrc.proofs.Below.snapshot_ptr_Taken.{IsFreeIfThere, least_is_there}
 use Rattle.cdrc.proofs.Below.snapshot_ptr_Under.{IsFreeWord}
 use Rattle.example_setting.specs.Views.{View}
-use Rattle.example_setting.specs.Calls.{Reads, read_too}
-use Rattle.example_setting.specs.Deeds.{ReadReady, read_next, value_of}
+use Rattle.example_setting.specs.Calls.{Reads, TakesFrom, read_too}
+use Rattle.example_setting.specs.Deeds.{ReadReady, ReadTells, read_next, value_of}
 
 -- THE DEED is ready
 pub ready : {P : Type 0} (kind : List ℕ → Type 0) (d : DomainState P) (cell i : ℕ) → i ≡ cell
@@ -174,3 +174,17 @@ module _ {P : Type 0} (kind : List ℕ → Type 0) (d : DomainState P) (place : 
   stored_still (Err (refused.Moved seen now)) same taken moved =
       moved_stored (word_taken (least_free old.view.core)) (slot_in seen) (slot_in now)
       (moved seen now refl)
+
+-- the cell of the call is that of the setting
+pub taken_from : {P : Type 0} (kind : List ℕ → Type 0) (d : DomainState P) (i cell : ℕ) → i ≡ cell
+    → (old new : SeatState View) (r : Result (Option Snap) LoadError)
+    → IfOk r (λ found.
+    Takes kind d (Cell i) read_next (ReadTells cell) (least_free old.view.core) (slot_under found)
+    old new)
+    → IfOk r (λ found. TakesFrom kind d cell (slot_under found) old new)
+taken_from kind d i cell is old new r taken =
+    subst
+    (λ (j : ℕ). IfOk r (λ found.
+    Takes kind d (Cell j) read_next (ReadTells cell) (least_free old.view.core) (slot_under found)
+    old new))
+    is taken

@@ -29,7 +29,7 @@ use Rattle.cdrc.proofs.Below.protected_loads_Learning.{allowed, batch, batch_loa
 use Rattle.cdrc.specs.protocol_pairs.Values.{value_of}
 use Rattle.example_stack.specs.Views.{View}
 use Rattle.example_stack.specs.Deeds.{IsStackPlace, SeeReady, SeeTells, see_next}
-use Rattle.example_stack.specs.Calls.{IsPlaceOf, IsWhy, Sees}
+use Rattle.example_stack.specs.Calls.{IsNullAt, IsPlaceOf, IsWhy, Sees}
 use Rattle.example_stack.proofs.Knowing.{has_owned, node_still, own_node, saw_owned}
 
 kind_of : (q : Place) → place_kind (strong_place q) ≡ Strong
@@ -202,3 +202,13 @@ module _ {P : Type 0} (kind : List ℕ → Type 0) (d : DomainState P) (cell : �
                     (slot_in now) m,
                 (strong_place q, old, new, inl m),
               )
+
+-- what a load found null it found by its look
+pub null_at : {P : Type 0} (kind : List ℕ → Type 0) (d : DomainState P) (q : Place)
+    (old new : SeatState View) (r : Result (Option Handle) LoadError)
+    → IfOk r (λ found.
+    Loads kind d (strong_place q) see_next (SeeTells kind) (named found) old new)
+    → IfOk r (λ found. IsNullAt kind d (strong_place q) (named found) old new)
+null_at kind d q old new (Ok None) null = null
+null_at kind d q old new (Ok (Some handle)) refers = tt
+null_at kind d q old new (Err e) loaded = tt

@@ -11,7 +11,7 @@ use Rattle.cdrc.specs.core_events.Words.{slot_in}
 use Rattle.cdrc.specs.control_word.Resting.{IsSpent}
 use Rattle.cdrc.specs.counted_handles.declared.refusal.LoadError.{LoadError}
 use Rattle.cdrc.specs.counted_handles.declared.refusal.LoadError.TheVariants as refused
-use Rattle.cdrc.specs.protected_loads.Loads.{Misses}
+use Rattle.cdrc.specs.protected_loads.Loads.{FindsNull, Misses}
 use Rattle.cdrc.specs.retiring_stores.Exchanging.{Loses}
 use Rattle.cdrc.specs.counted_handles.declared.place.Place.{Place}
 use Rattle.cdrc.specs.counted_handles.declared.place.Place.TheVariants as place
@@ -52,6 +52,12 @@ pub record Sees {P : Type 0} (kind : List ℕ → Type 0) (d : DomainState P) (f
   pub saw : SawIt (own_of new.view) new.view.client found
   pub there : IsContent d.shape found
   pub spent : IsSpent new.view.core → HasFewAdds old.view.core
+
+-- where it found null, that was at its look at the place, and its only step
+abbrev pub IsNullAt : {P : Type 0} → (List ℕ → Type 0) → DomainState P → EventPlace
+    → Option SlotId → SeatState View → SeatState View → Type 0
+IsNullAt kind d place None old new = FindsNull kind d place see_next (SeeTells kind) old new
+IsNullAt kind d place (Some s) old new = Unit {0}
 
 -- A place held `seen`, and then another content, `now`: so a check of the seat's found, or an exchange.
 abbrev pub Changes : {P : Type 0} → (List ℕ → Type 0) → DomainState P → ℕ → ℕ → Type 0

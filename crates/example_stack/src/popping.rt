@@ -1,5 +1,6 @@
 //! A node is taken off a stack.
 ghost use Rattle.std.specs.Prelude.{◌≡◌, ◌<◌, ◌+◌, ◌∷◌, ◌++◌, [], IfErr, IfOk, OnErr};
+ghost use Rattle.cdrc.specs.plain_state.declared.act.EventPlace.TheVariants as place;
 ghost use Rattle.cdrc.specs.plain_state.declared.slot.Kind.TheVariants as kind;
 ghost use Rattle.cdrc.specs.core_events.Steps.{CanGive, HasRoom, without_given};
 ghost use Rattle.cdrc.specs.atomic_shared.Places.{named};
@@ -7,7 +8,7 @@ ghost use Rattle.cdrc.specs.control_word.Moves.{KnowsStill};
 ghost use Rattle.cdrc.specs.control_word.Resting.{IsAtRest};
 ghost use Rattle.cdrc.specs.domain_rule.Views.{object_in, own_of};
 ghost use Rattle.example_stack.specs.Deeds.{SawIt};
-ghost use Rattle.example_stack.specs.Calls.{Changes, HasFewAdds, HasNode, IsWhy, Pops, popped_too};
+ghost use Rattle.example_stack.specs.Calls.{Changes, HasFewAdds, HasNode, IsNullAt, IsWhy, Pops, popped_too};
 
 use crate::deeds::PopNode;
 use crate::law::StackLaw;
@@ -30,6 +31,9 @@ pub fn try_pop<K: PayloadKind>(
     requires cell { cell ≡ domain.now.protocol.cell }
     requires there { cell < domain.now.shape.cells }
     ensures popped { IfOk result (λ found. Pops K.fits (named found) seat.old seat.new) }
+    ensures empty { IfOk result (λ found. IsNullAt K.fits domain.now
+        (place.Cell domain.now.protocol.cell) (named found) seat.old seat.new) }
+    ensures notes { seat.new.view.core.notes ≡ seat.old.view.core.notes }
     ensures why { IfErr result (λ error. IsWhy K.fits domain.now
         (HasFewAdds seat.old.view.core) error) }
     ensures refused { OnErr result (seat.new.view.client.popped ≡ seat.old.view.client.popped) }
@@ -85,6 +89,7 @@ fn take_top<K: PayloadKind>(
     ensures owned { IfErr result (λ lost. seat.new.view.core.owned ≡ seat.old.view.core.owned) }
     ensures why { IfErr result (λ lost. Changes K.fits domain.now (top.0 + 1) lost.now) }
     ensures back { IfErr result (λ lost. lost.back ≡ below) }
+    ensures notes { seat.new.view.core.notes ≡ seat.old.view.core.notes }
     ensures objects { KnowsStill (without_given kind.Strong (named below) seat.old.view.core)
         seat.old seat.new }
     ensures room { HasRoom seat.new.view.core }

@@ -46,6 +46,7 @@ pub fn try_push<K: PayloadKind>(
     ensures back { IfErr result (λ not. not.node ≡ node) }
     ensures still { IfErr result (λ not. HasNode K.fits not.node.slot seat.new) }
     ensures popped { seat.new.view.client.popped ≡ seat.old.view.client.popped }
+    ensures notes { seat.new.view.core.notes ≡ seat.old.view.core.notes }
     ensures room { HasRoom seat.new.view.core }
     ensures rest { IsAtRest domain.now seat.new }
 {
@@ -83,6 +84,7 @@ fn link<K: PayloadKind>(
     ensures owned { seat.new.view.core.owned
         ≡ (without_given kind.Strong (named below) seat.old.view.core).owned }
     ensures client { seat.new.view.client ≡ seat.old.view.client }
+    ensures notes { seat.new.view.core.notes ≡ seat.old.view.core.notes }
     ensures objects { KnowsStill (without_given kind.Strong (named below) seat.old.view.core)
         seat.old seat.new }
     ensures room { HasRoom seat.new.view.core }
@@ -111,6 +113,7 @@ fn put_on<K: PayloadKind>(
     ensures why { IfErr result (λ not. IsWhy K.fits domain.now ⊥ not.error) }
     ensures back { IfErr result (λ not. not.node ≡ node) }
     ensures still { IfErr result (λ not. HasNode K.fits not.node.slot seat.new) }
+    ensures notes { seat.new.view.core.notes ≡ seat.old.view.core.notes }
     ensures room { HasRoom seat.new.view.core }
     ensures rest { IsAtRest domain.now seat.new }
 {

@@ -3,10 +3,10 @@ ghost use Rattle.std.specs.Prelude.{◌≡◌, IfErr, IfOk, OnErr};
 ghost use Rattle.cdrc.specs.plain_state.declared.slot.Kind.TheVariants as kind;
 ghost use Rattle.cdrc.specs.core_events.Steps.{CanGive, HasRoom, without_given};
 ghost use Rattle.cdrc.specs.atomic_shared.Loading.{CanLoad};
-ghost use Rattle.cdrc.specs.atomic_shared.Places.{named};
+ghost use Rattle.cdrc.specs.atomic_shared.Places.{named, strong_place};
 ghost use Rattle.cdrc.specs.control_word.Moves.{KnowsStill};
 ghost use Rattle.cdrc.specs.control_word.Resting.{IsAtRest, IsSpent};
-ghost use Rattle.example_stack.specs.Calls.{IsPlaceOf, IsWhy, Sees};
+ghost use Rattle.example_stack.specs.Calls.{IsNullAt, IsPlaceOf, IsWhy, Sees};
 
 use crate::deeds::SeeNode;
 use crate::law::StackLaw;
@@ -23,6 +23,9 @@ pub(crate) fn see<K: PayloadKind>(
     requires place { CanLoad domain.now.shape seat.old.view.core place }
     requires stack { IsPlaceOf domain.now.protocol.cell K.fits seat.old place }
     ensures saw { IfOk result (λ found. Sees K.fits domain.now (named found) seat.old seat.new) }
+    ensures null { IfOk result (λ found. IsNullAt K.fits domain.now (strong_place place)
+        (named found) seat.old seat.new) }
+    ensures notes { seat.new.view.core.notes ≡ seat.old.view.core.notes }
     ensures why { IfErr result (λ error. IsWhy K.fits domain.now (IsSpent seat.old.view.core)
         error) }
     ensures owned { OnErr result (seat.new.view.core.owned ≡ seat.old.view.core.owned) }
@@ -47,6 +50,7 @@ pub(crate) fn give_up<K: PayloadKind>(
     ensures owned { seat.new.view.core.owned
         ≡ (without_given kind.Strong (named handle) seat.old.view.core).owned }
     ensures client { seat.new.view.client ≡ seat.old.view.client }
+    ensures notes { seat.new.view.core.notes ≡ seat.old.view.core.notes }
     ensures room { HasRoom seat.new.view.core }
     ensures rest { IsAtRest domain.now seat.new }
 {

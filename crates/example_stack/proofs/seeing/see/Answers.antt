@@ -1,6 +1,6 @@
 use Rattle.std.proofs.Common.{ap, ℕ, List}
 use Rattle.cdrc.proofs.Below.protected_loads_Learning.{room_as}
-use Rattle.example_stack.proofs.Sights.{answered, ready}
+use Rattle.example_stack.proofs.Sights.{answered, null_at, ready}
 use Rattle.example_stack.proofs.seeing.see.Goals as goal
 
 pub try_load-requires-clause-deed : goal.try_load-requires-clause-deed
@@ -52,3 +52,8 @@ returns-clause-why g c =
     c.args.seat.now c.requires.rest c.try_load.new.seat c.try_load.result c.try_load.ensures.refused
     c.try_load.ensures.spent.0
     c.try_load.ensures.loaded c.try_load.ensures.moved).4
+
+pub returns-clause-null : goal.returns-clause-null
+returns-clause-null g c =
+    null_at g.K.PayloadKind.fits c.args.domain.now c.args.place c.args.seat.now c.try_load.new.seat
+    c.try_load.result c.try_load.ensures.loaded
