@@ -25,9 +25,9 @@ mod shown;
 
 pub use domain_desk::{PairKind, Seat};
 pub use laws::scripts_have_one_output;
-pub use line_machine::{Lines, OutOfMemory, Written, words};
+pub use line_machine::{Lines, OutOfMemory, Reason, Written, words};
 pub use run::{Scripted, script};
 pub use script_law::{
-    CommandRefused, Deleter, Desk, Heap, Kind, NoLaw, PayloadKind, Said, ScriptKind, ScriptLine,
-    SlotId, SlotImage, ZERO, audit, check_walk, lawful, script_line,
+    Command, CommandRefused, Deleter, Desk, Heap, Kind, NoLaw, PayloadKind, Said, ScriptKind,
+    ScriptLine, Shown, SlotId, SlotImage, ZERO, audit, check_walk, lawful, script_line,
 };

@@ -1,6 +1,6 @@
 -- A seat that makes an object and gives its reference away has what it had.
 use Rattle.std.proofs.Common.{◌≡◌, ◌<◌, ℕ, List, [], ◌∷◌, ◌++◌, refl, sym, subst, ◌∙◌, arith, Some}
-use Rattle.std.specs.Prelude.{◌↔◌, ⊥, Err, Result}
+use Rattle.std.specs.Prelude.{◌↔◌, Err, Result}
 use Rattle.std.proofs.lemmas.Bool.Decides.{nat_tests}
 use Rattle.cdrc.specs.plain_state.declared.slot.SlotId.{SlotId}
 use Rattle.cdrc.specs.plain_state.declared.slot.Kind.TheVariants.{Strong}

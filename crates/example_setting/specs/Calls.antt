@@ -1,5 +1,5 @@
 -- What a read and a store leave of a seat.
-use Rattle.std.specs.Prelude.{ℕ, ◌≡◌, ◌<◌, ⊥, List, [], ◌∷◌, ◌++◌, Option, Some, None}
+use Rattle.std.specs.Prelude.{ℕ, ◌≡◌, ◌<◌, List, [], ◌∷◌, ◌++◌, Option, Some, None}
 use Rattle.cdrc.specs.plain_state.declared.act.EventPlace.TheVariants.{Cell}
 use Rattle.cdrc.specs.plain_state.declared.slot.SlotId.{SlotId}
 use Rattle.cdrc.specs.plain_state.Lists.{times}

@@ -1,5 +1,5 @@
 //! A new node.
-ghost use Rattle.std.specs.Prelude.{◌≡◌, ◌++◌, ◌∷◌, ◌↔◌, [], ⊥, Err, IfOk, OnErr};
+ghost use Rattle.std.specs.Prelude.{◌≡◌, ◌++◌, ◌∷◌, ◌↔◌, [], Err, IfOk, OnErr};
 ghost use Rattle.cdrc.specs.core_events.Steps.{HasRoom};
 ghost use Rattle.cdrc.specs.control_word.Resting.{IsAtRest, IsSpent};
 ghost use Rattle.cdrc.specs.slot_store.Calls.{HasNoMake};

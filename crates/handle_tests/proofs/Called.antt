@@ -1,9 +1,9 @@
 -- What a player has after a call, by what the call says of its seat.
-use Rattle.std.proofs.Common.{◌≡◌, ℕ, Bool, true, false, List, [], ◌∷◌, ◌++◌, Option, Some, None, ap, refl, subst, sym, ◌∙◌}
+use Rattle.std.proofs.Common.{◌≡◌, ℕ, Bool, true, false, List, [], ◌∷◌, ◌++◌, Option, Some, ap, refl, subst, sym, ◌∙◌}
 use Rattle.control_word.specs.plain_state.declared.act.EventPlace.{EventPlace}
 use Rattle.control_word.specs.plain_state.declared.act.PlainAct.{PlainAct}
 use Rattle.control_word.specs.plain_state.declared.slot.Kind.{Kind}
-use Rattle.control_word.specs.plain_state.declared.slot.Kind.TheVariants.{Strong, Weak, Disposal}
+use Rattle.control_word.specs.plain_state.declared.slot.Kind.TheVariants.{Strong, Weak}
 use Rattle.control_word.specs.plain_state.declared.slot.SlotId.{SlotId}
 use Rattle.control_word.specs.plain_state.Places.{place_kind}
 use Rattle.control_word.specs.plain_state.State.{Plain}
@@ -28,7 +28,7 @@ use Rattle.atomic_shared.specs.protected_loads.Retries.{AtLast, LoadsAtLast}
 use Rattle.atomic_shared.specs.Places.{strong_place}
 use Rattle.atomic_weak.specs.Places.{weak_place}
 use Rattle.handle_tests.specs.Plays.{Plays}
-use Rattle.handle_tests.proofs.Playing.{gains, gains_weak, gives, gives_weak, stays}
+use Rattle.handle_tests.proofs.Changing.{gains, gains_weak, gives, gives_weak, stays}
 
 -- of what a seat with v has, only what is not a reference may have changed
 abbrev pub HasLists : CoreView → List SlotId → List SlotId → Type 0
@@ -78,7 +78,7 @@ module _ {P V : Type 0} {d : DomainState P} {old new : SeatState V} {xs ws : Lis
           subst (λ (x : SlotId). Plays d new xs (ws ++ x ∷ [])) (sym same)
           (gains_weak d old new xs ws rest room s has.1 has.0 plays)
 
-    module _ {s : SlotId} where
+    module _ (s : SlotId) where
       pub given : HasLists new.view.core (without s old.view.core.owned) old.view.core.weaks
           → Plays d old (xs ++ s ∷ []) ws → Plays d new xs ws
       given has plays = gives d old new xs ws rest room s has.0 has.1 plays
@@ -99,25 +99,6 @@ module _ {P V : Type 0} {fits : List ℕ → Type 0} {d : DomainState P}
   pub by_moves : {ms : List Move} {v : CoreView} → Becomes fits d next allows ms v old new
       → HasLists new.view.core v.owned v.weaks
   by_moves by = (ap (λ (u : CoreView). u.owned) by.core, ap (λ (u : CoreView). u.weaks) by.core)
-
-  pub by_drop : {s : SlotId} → DropsStrong fits d s old new
-      → HasLists new.view.core (without s old.view.core.owned) old.view.core.weaks
-  by_drop {s = s} drops =
-      let lists = with_ended_lists (ends drops.0) s (without_strong s old.view.core) in (
-        ap (λ (u : CoreView). u.owned) drops.1.core ∙ lists.0,
-        ap (λ (u : CoreView). u.weaks) drops.1.core ∙ lists.1,
-      )
-
-  pub by_weak_drop : {s : SlotId} → DropsWeak fits d s old new
-      → HasLists new.view.core old.view.core.owned (without s old.view.core.weaks)
-  by_weak_drop drops = (
-    ap (λ (u : CoreView). u.owned) drops.1.core,
-    ap (λ (u : CoreView). u.weaks) drops.1.core,
-  )
-
-  pub by_null : {p : EventPlace} → Loads fits d p next allows None old new
-      → HasLists new.view.core old.view.core.owned old.view.core.weaks
-  by_null loads = by_moves loads.becomes
 
   pub by_miss : {j : ℕ} {p : EventPlace} {seen now : Option SlotId}
       → Misses fits d j p next allows seen now old new
@@ -153,13 +134,6 @@ module _ {P V : Type 0} {fits : List ℕ → Type 0} {d : DomainState P}
     ap (λ (u : CoreView). u.weaks) last.core,
   )
 
-  pub by_null_last : {p : EventPlace} → LoadsAtLast fits d p next allows None old new
-      → HasLists new.view.core old.view.core.owned old.view.core.weaks
-  by_null_last last =
-      let mid = by_last last in
-      let null = by_moves last.goes.becomes in
-      (null.0 ∙ mid.0, null.1 ∙ mid.1)
-
   pub by_load_last : (p : Place) {s : SlotId}
       → LoadsAtLast fits d (strong_place p) next allows (Some s) old new
       → HasLists new.view.core (old.view.core.owned ++ s ∷ []) old.view.core.weaks
@@ -182,25 +156,50 @@ module _ {P V : Type 0} {fits : List ℕ → Type 0} {d : DomainState P}
             ∙ ap (λ (ys : List SlotId). ys ++ s ∷ []) mid.1,
       )
 
+module _ {P V : Type 0} {fits : List ℕ → Type 0} {d : DomainState P} {old new : SeatState V} where
+  pub by_drop : {s : SlotId} → DropsStrong fits d s old new
+      → HasLists new.view.core (without s old.view.core.owned) old.view.core.weaks
+  by_drop {s = s} drops =
+      let lists = with_ended_lists (ends drops.0) s (without_strong s old.view.core) in (
+        ap (λ (u : CoreView). u.owned) drops.1.core ∙ lists.0,
+        ap (λ (u : CoreView). u.weaks) drops.1.core ∙ lists.1,
+      )
+
+  pub by_weak_drop : {s : SlotId} → DropsWeak fits d s old new
+      → HasLists new.view.core old.view.core.owned (without s old.view.core.weaks)
+  by_weak_drop drops = (
+    ap (λ (u : CoreView). u.owned) drops.1.core,
+    ap (λ (u : CoreView). u.weaks) drops.1.core,
+  )
+
+-- what a call left of a seat, but for the trail
+pub by_core : {v w : CoreView} → v ≡ w → HasLists v w.owned w.weaks
+by_core is = (ap (λ (u : CoreView). u.owned) is, ap (λ (u : CoreView). u.weaks) is)
+
 -- what is beside a seat's batch, its dying and its ripe slots tells its lists
-pub by_rest : {v w : CoreView} → rest_of v ≡ rest_of w → HasLists v w.owned w.weaks
-by_rest same = (ap (λ (u : CoreView). u.owned) same, ap (λ (u : CoreView). u.weaks) same)
+module _ (v w : CoreView) where
+  pub by_rest : rest_of v ≡ rest_of w → HasLists v w.owned w.weaks
+  by_rest same = (ap (λ (u : CoreView). u.owned) same, ap (λ (u : CoreView). u.weaks) same)
 
-module _ {v w : CoreView} where
-  pub by_none : (k : Kind) → rest_of v ≡ rest_of (without_given k None w)
-      → HasLists v w.owned w.weaks
-  by_none k same = by_rest same
+  module _ (s : SlotId) where
+    pub by_given : (p : Place)
+        → rest_of v ≡ rest_of (without_given (place_kind (strong_place p)) (Some s) w)
+        → HasLists v (without s w.owned) w.weaks
+    by_given p same = by_kind Strong (strong_kind p)
+      where
+        by_kind : (k : Kind) → place_kind (strong_place p) ≡ k
+            → HasLists v (without_given k (Some s) w).owned (without_given k (Some s) w).weaks
+        by_kind k is =
+            let at = subst (λ (j : Kind). rest_of v ≡ rest_of (without_given j (Some s) w)) is same in
+            (ap (λ (u : CoreView). u.owned) at, ap (λ (u : CoreView). u.weaks) at)
 
-  pub by_given : (p : Place) {s : SlotId}
-      → rest_of v ≡ rest_of (without_given (place_kind (strong_place p)) (Some s) w)
-      → HasLists v (without s w.owned) w.weaks
-  by_given p {s = s} same =
-      by_rest
-      (subst (λ (k : Kind). rest_of v ≡ rest_of (without_given k (Some s) w)) (strong_kind p) same)
-
-  pub by_given_weak : (p : WeakPlace) {s : SlotId}
-      → rest_of v ≡ rest_of (without_given (place_kind (weak_place p)) (Some s) w)
-      → HasLists v w.owned (without s w.weaks)
-  by_given_weak p {s = s} same =
-      by_rest
-      (subst (λ (k : Kind). rest_of v ≡ rest_of (without_given k (Some s) w)) (weak_kind p) same)
+    pub by_given_weak : (p : WeakPlace)
+        → rest_of v ≡ rest_of (without_given (place_kind (weak_place p)) (Some s) w)
+        → HasLists v w.owned (without s w.weaks)
+    by_given_weak p same = by_kind Weak (weak_kind p)
+      where
+        by_kind : (k : Kind) → place_kind (weak_place p) ≡ k
+            → HasLists v (without_given k (Some s) w).owned (without_given k (Some s) w).weaks
+        by_kind k is =
+            let at = subst (λ (j : Kind). rest_of v ≡ rest_of (without_given j (Some s) w)) is same in
+            (ap (λ (u : CoreView). u.owned) at, ap (λ (u : CoreView). u.weaks) at)

@@ -1,5 +1,5 @@
 pub mod Within
-pub mod Playing
+pub mod Changing
 pub mod Called
 pub mod Looked
 pub mod Opened

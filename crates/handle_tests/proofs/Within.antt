@@ -1,10 +1,10 @@
 -- Lists of slots, each of which stands at most as often in one as in another.
-use Rattle.std.proofs.Common.{◌≡◌, ℕ, zero, suc, ◌+◌, ◌<◌, ◌≤◌, List, [], ◌∷◌, ◌++◌, length, refl, arith}
+use Rattle.std.proofs.Common.{ℕ, zero, suc, ◌<◌, List, [], ◌∷◌, ◌++◌, length, refl, arith}
 use Rattle.std.specs.Prelude.{slice_index_or}
 use Rattle.control_word.specs.plain_state.declared.slot.SlotId.{SlotId}
 use Rattle.control_word.specs.plain_state.Lists.{times}
 use Rattle.control_word.specs.core_events.Views.{without}
-use Rattle.control_word.proofs.Below.core_law_Kit.{one_same, times_cons, times_push, times_without}
+use Rattle.control_word.proofs.Below.core_law_Kit.{one_same, times_cons, times_none, times_push, times_without}
 use Rattle.handle_tests.specs.Plays.{IsWithin}
 
 module _ (s : SlotId) (xs ys : List SlotId) where
@@ -47,3 +47,7 @@ pub within_at : (xs ys : List SlotId) (i : ℕ) (d : SlotId) → IsWithin xs ys 
 within_at xs ys i d within low =
     let a = stands_at xs i d low in
     let b = within (slice_index_or xs i d) in omega arith
+
+-- nothing is listed
+pub within_none : (ys : List SlotId) → IsWithin [] ys
+within_none ys s = let none = times_none s in omega arith

@@ -1,5 +1,5 @@
 //! A seat with the references that it has.
-ghost use Rattle.std.specs.Prelude.{◌≡◌, ◌<◌, ◌≤◌, ◌^◌, ◌++◌, ◌∷◌, [], IfSome, OnNone, slice_index};
+ghost use Rattle.std.specs.Prelude.{◌≡◌, ◌<◌, ◌≤◌, ◌^◌, ◌++◌, ◌∷◌, [], IfSome, None, slice_index};
 ghost use Rattle.control_word.specs.plain_state.Lists.{times};
 ghost use Rattle.handle_tests.specs.Plays.{Plays};
 
@@ -38,7 +38,10 @@ pub(crate) fn strong_at(domain: &Domain<Objects>, player: &Player, index: usize)
     requires { Plays domain.now player.now.seat player.now.strongs.items player.now.weaks.items }
     ensures { IfSome result (λ s. 0 < times s player.now.seat.view.core.owned) }
 {
-    player.strongs.get(index).copied()
+    if index < player.strongs.len() {
+        return Some(player.strongs[index]);
+    }
+    None
 }
 
 /// The slot of a weak reference, by its number.
@@ -46,7 +49,10 @@ pub(crate) fn weak_at(domain: &Domain<Objects>, player: &Player, index: usize) -
     requires { Plays domain.now player.now.seat player.now.strongs.items player.now.weaks.items }
     ensures { IfSome result (λ s. 0 < times s player.now.seat.view.core.weaks) }
 {
-    player.weaks.get(index).copied()
+    if index < player.weaks.len() {
+        return Some(player.weaks[index]);
+    }
+    None
 }
 
 /// Takes the last strong reference off the list; the seat has it still.
@@ -57,8 +63,8 @@ pub(crate) fn take_strong(domain: &Domain<Objects>, player: &mut Player) -> Opti
         (player.new.strongs.items ++ strong.slot ∷ []) player.new.weaks.items) }
     ensures owned { IfSome result (λ strong.
         0 < times strong.slot player.new.seat.view.core.owned) }
-    ensures none { OnNone result (Plays domain.now player.new.seat player.new.strongs.items
-        player.new.weaks.items) }
+    ensures none { result ≡ None → Plays domain.now player.new.seat player.new.strongs.items
+        player.new.weaks.items }
 {
     let slot = player.strongs.pop()?;
     Some(Strong::of(slot))
@@ -72,8 +78,8 @@ pub(crate) fn take_weak(domain: &Domain<Objects>, player: &mut Player) -> Option
         player.new.strongs.items (player.new.weaks.items ++ weak.slot ∷ [])) }
     ensures owned { IfSome result (λ weak.
         0 < times weak.slot player.new.seat.view.core.weaks) }
-    ensures none { OnNone result (Plays domain.now player.new.seat player.new.strongs.items
-        player.new.weaks.items) }
+    ensures none { result ≡ None → Plays domain.now player.new.seat player.new.strongs.items
+        player.new.weaks.items }
 {
     let slot = player.weaks.pop()?;
     Some(Weak::of(slot))

@@ -12,7 +12,7 @@ use crate::player::{Objects, Player};
 use crate::slot_acts::{audit, collect, draw_ticket, make, read_first, reap, settle_all};
 use crate::snapshot_acts::{keep, look, look_on, outlive, take, watch};
 use crate::weak_place_acts::{clear_weak, load_weak, replace_weak, store_weak, try_load_weak};
-use control_word::{AnyStep, Domain};
+use control_word::{AnyStep, Domain, LoadError};
 use snapshot_ptr::{Snapshot, counted, end, try_snapshot};
 use std::sync::Wait;
 
@@ -161,12 +161,17 @@ pub(crate) fn run_deep<R: Wait>(
     let Some(place) = place_of(domain, player, spot) else {
         return Some((script.len(), Said::Never));
     };
-    let Ok(Some(seen)) = try_snapshot(domain, &mut player.seat, place, AnyStep) else {
-        return Some((script.len(), Said::Never));
+    let seen = match try_snapshot(domain, &mut player.seat, place, AnyStep) {
+        Ok(Some(seen)) => seen,
+        Ok(None) => return Some((script.len(), Said::Null)),
+        Err(LoadError::Moved { .. }) => return Some((script.len(), Said::Moved)),
+        Err(LoadError::Spent) => return Some((script.len(), Said::Spent)),
     };
-    let first = if counted(&seen) {
-        Some((script.len(), Said::Never))
-    } else if depth == 1 {
+    if counted(&seen) {
+        end(domain, &mut player.seat, seen);
+        return Some((script.len(), Said::Never));
+    }
+    let first = if depth == 1 {
         run_under(rt, domain, player, &seen, script)
     } else {
         run_deep(rt, domain, player, spot, depth - 1, script)

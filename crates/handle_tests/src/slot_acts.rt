@@ -1,5 +1,5 @@
 //! Acts on slots: objects that are made, read and destroyed; and what a player may ask about itself.
-ghost use Rattle.std.specs.Prelude.{◌≡◌};
+ghost use Rattle.std.specs.Prelude.{◌≡◌, ◌≤◌, ◌^◌, slice_index};
 ghost use Rattle.handle_tests.specs.Plays.{Plays};
 
 use crate::acts::Said;
@@ -18,7 +18,7 @@ fn refused(error: MakeError) -> Said {
 
 /// The payload of an object of this weight.
 fn payload_of(weight: u32) -> [u64; 16]
-    ensures { FirstWord.fits result }
+    ensures { slice_index result 0 ≤ 2 ^ 32 }
 {
     let mut payload = [0; 16];
     payload[0] = u64::from(weight);

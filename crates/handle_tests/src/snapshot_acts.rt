@@ -163,15 +163,19 @@ pub(crate) fn outlive(domain: &Domain<Objects>, player: &mut Player, spot: WeakS
     let Some(place) = weak_place_of(domain, player, spot) else {
         return Said::Never;
     };
-    let Ok(WeakSnap::Held(snapshot)) = try_weak_snapshot(domain, &mut player.seat, place, AnyStep)
-    else {
-        return Said::Never;
-    };
-    let waiting = if weak_counted(&snapshot) {
-        Said::Never
-    } else {
-        drop_under(domain, player)
-    };
-    end_weak(domain, &mut player.seat, snapshot);
-    waiting
+    match try_weak_snapshot(domain, &mut player.seat, place, AnyStep) {
+        Ok(WeakSnap::Held(snapshot)) => {
+            if weak_counted(&snapshot) {
+                end_weak(domain, &mut player.seat, snapshot);
+                return Said::Never;
+            }
+            let waiting = drop_under(domain, player);
+            end_weak(domain, &mut player.seat, snapshot);
+            waiting
+        }
+        Ok(WeakSnap::Null) => Said::Null,
+        Ok(WeakSnap::Zero) => Said::Nothing,
+        Err(LoadError::Moved { .. }) => Said::Moved,
+        Err(LoadError::Spent) => Said::Spent,
+    }
 }

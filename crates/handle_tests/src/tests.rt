@@ -12,7 +12,9 @@ use crate::rows_counts::ROWS_COUNTS;
 use crate::rows_places::ROWS_PLACES;
 use control_word::{Domain, OpenError, Quota, Shape, ShapeField, SlotId, open_granted};
 use slot_store::{Deleter, reap};
+use std::alloc::Global;
 use std::cell::Cell;
+use std::process::Abort;
 use std::sync::Wait;
 use std::test::Fail;
 
@@ -38,7 +40,7 @@ fn first_difference<R: Wait>(
     rt: &R,
     domain: &Domain<Objects>,
     player: &mut Player,
-    row: &Row,
+    row: Row,
 ) -> Option<(usize, Said)>
     requires { Plays domain.now player.old.seat player.old.strongs.items player.old.weaks.items }
     ensures { Plays domain.now player.new.seat player.new.strongs.items player.new.weaks.items }
@@ -50,30 +52,48 @@ fn first_difference<R: Wait>(
     first.or(second).or(third)
 }
 
+/// Plays a row in a domain of its own, and looks at what is left.
+fn play_row<R: Abort + Wait>(rt: &R, alloc: Global, row: Row) -> Result<(), Fail> {
+    let shape = Shape {
+        slots: row.slots,
+        ..SMALL
+    };
+    let Opened {
+        domain,
+        root,
+        others: _others,
+    } = open(alloc, shape, &[row.quota], row.grants)?;
+    let mut player = player_of(alloc, &domain, root);
+    let differs = first_difference(rt, &domain, &mut player, row);
+    assert_eq!(rt; differs, None, "{}", row.name);
+    if !domain.alone(&player.seat) {
+        panic!(rt; "there is one seat");
+    }
+    let heap = domain.image(alloc, &mut player.seat)?;
+    assert_eq!(rt; is_empty(&heap), !row.cyclic, "{}", row.name);
+    Ok(())
+}
+
 #[test]
-fn scripts_answer_as_worked_out(rt: HostRuntime) -> Result<(), Fail> {
-    let rows = ROWS_COUNTS
-        .iter()
-        .chain(ROWS_PLACES.iter())
-        .chain(ROWS_AUDITS.iter());
-    for row in rows {
-        let shape = Shape {
-            slots: row.slots,
-            ..SMALL
-        };
-        let Opened {
-            domain,
-            root,
-            others: _others,
-        } = open(rt.alloc(), shape, &[row.quota], row.grants)?;
-        let mut player = player_of(rt.alloc(), &domain, root);
-        let differs = first_difference(&rt, &domain, &mut player, row);
-        assert_eq!(rt; differs, None, "{}", row.name);
-        if !domain.alone(&player.seat) {
-            panic!(rt; "there is one seat");
-        }
-        let heap = domain.image(rt.alloc(), &mut player.seat)?;
-        assert_eq!(rt; is_empty(&heap), !row.cyclic, "{}", row.name);
+fn counts_answer_as_worked_out(rt: HostRuntime) -> Result<(), Fail> {
+    for row in ROWS_COUNTS {
+        play_row(&rt, rt.alloc(), row)?;
+    }
+    Ok(())
+}
+
+#[test]
+fn places_answer_as_worked_out(rt: HostRuntime) -> Result<(), Fail> {
+    for row in ROWS_PLACES {
+        play_row(&rt, rt.alloc(), row)?;
+    }
+    Ok(())
+}
+
+#[test]
+fn audits_answer_as_worked_out(rt: HostRuntime) -> Result<(), Fail> {
+    for row in ROWS_AUDITS {
+        play_row(&rt, rt.alloc(), row)?;
     }
     Ok(())
 }

@@ -1,6 +1,6 @@
 //! A seat that stores while others are under snapshots that never end, and one that ends an object which another one
 //! counts meanwhile.
-ghost use Rattle.std.specs.Prelude.{◌≡◌, All, IfOk, IfSome};
+ghost use Rattle.std.specs.Prelude.{◌≡◌, All, IfOk};
 ghost use Rattle.control_word.specs.core_events.Steps.{HasRoom};
 ghost use Rattle.control_word.specs.acquire_retire.Calls.{IsOf};
 ghost use Rattle.control_word.specs.Resting.{IsAtRest};
@@ -60,6 +60,28 @@ fn hold_thrice(domain: &Domain<Objects>, player: &mut Player, seat: &mut Seat<Ob
     uncounted
 }
 
+/// The last of these seats does so, and joins those that hold snapshots. How many of its snapshots aren't counted.
+fn hold_next(
+    domain: &Domain<Objects>,
+    player: &mut Player,
+    seats: &mut Vec<Seat<Objects>>,
+    held: &mut Vec<Seat<Objects>>,
+) -> Result<u32, AllocError>
+    requires plays { Plays domain.now player.old.seat player.old.strongs.items player.old.weaks.items }
+    requires free { All (IsFree domain.now) seats.old.items }
+    requires of { All (IsOf domain.now) held.old.items }
+    ensures plays { Plays domain.now player.new.seat player.new.strongs.items player.new.weaks.items }
+    ensures free { All (IsFree domain.now) seats.new.items }
+    ensures of { All (IsOf domain.now) held.new.items }
+{
+    let Some(mut seat) = take_last(domain, seats) else {
+        return Ok(0);
+    };
+    let uncounted = hold_thrice(domain, player, &mut seat);
+    held.push(seat)?;
+    Ok(uncounted)
+}
+
 /// Each of these seats does so. How many snapshots aren't counted.
 fn hold_all(
     alloc: Global,
@@ -75,10 +97,7 @@ fn hold_all(
     let mut held = Vec::new(alloc);
     let mut uncounted: u32 = 0;
     for _seat in 0..seats.len() {
-        if let Some(mut seat) = take_last(domain, &mut seats) {
-            uncounted = uncounted.saturating_add(hold_thrice(domain, player, &mut seat));
-            held.push(seat)?;
-        }
+        uncounted = uncounted.saturating_add(hold_next(domain, player, &mut seats, &mut held)?);
     }
     Ok((held, uncounted))
 }
@@ -173,7 +192,7 @@ fn drop_beside(
         writer.old.weaks.items }
     requires reader { Plays domain.now reader.old.seat reader.old.strongs.items
         reader.old.weaks.items }
-    ensures { IfSome result (λ told. IsOf domain.now writer.new.seat) }
+    ensures { IsOf domain.now writer.new.seat }
 {
     let strong = take_strong(domain, writer)?;
     let Outcome::Zeroed = domain.drop(&mut writer.seat, strong.slot()) else {
@@ -213,8 +232,6 @@ fn a_reader_helps_to_end_an_object(rt: HostRuntime) -> Result<(), Fail> {
     let told = drop_beside(&domain, &mut writer, &mut reader);
     let expected = (Said::Number(0), Said::Ended, Outcome::Help, Outcome::Ended);
     assert_eq!(rt; told, Some(expected));
-    if told.is_some() {
-        assert_eq!(rt; domain.next_dying(&writer.seat).map(|slot| slot.0), Some(0));
-    }
+    assert_eq!(rt; domain.next_dying(&writer.seat).map(|slot| slot.0), Some(0));
     Ok(())
 }

@@ -1,48 +1,56 @@
 //! Scripts on a heap for one thread, with what each command answers. The answers are worked out by the rules of
 //! scripts.
+ghost use Rattle.std.specs.Prelude.{IfOk};
 ghost use Rattle.cdrc_scripts.specs.plain_store.Settling.{IsSettled};
 
 use cdrc_scripts::{
-    CommandRefused, Desk, Lines, OutOfMemory, Said, ScriptLine, script, script_line, words,
+    Command, CommandRefused, Desk, Lines, OutOfMemory, Reason, Said, ScriptLine, script,
+    script_line, words,
 };
 use std::alloc::Global;
 use std::process::Abort;
 use std::test::Fail;
 
-/// A desk between two commands.
-#[derive(Drop)]
-struct Settled {
-    desk: Desk,
-    ghost settled: { IsSettled desk.plain },
+/// The command that a line spells, if it spells one.
+fn command_of(alloc: Global, line: &[u8]) -> Result<Option<Command>, OutOfMemory> {
+    match script_line(alloc, &words(alloc, line)?) {
+        Ok(ScriptLine::Command(command)) => Ok(Some(command)),
+        Ok(ScriptLine::Heap(_, _, _)) | Err(CommandRefused::Syntax) => Ok(None),
+        Err(CommandRefused::OutOfMemory) => Err(OutOfMemory),
+    }
 }
 
-impl Settled {
-    /// Does what the line says, and appends what it answers, or why it is refused. Whether it isn't refused.
-    fn take(
-        self,
-        alloc: Global,
-        line: &[u8],
-        text: &mut String,
-    ) -> Result<(Settled, bool), OutOfMemory> {
-        let Settled { mut desk } = self;
-        let command = match script_line(alloc, &words(alloc, line)?) {
-            Ok(ScriptLine::Command(command)) => command,
-            Err(CommandRefused::OutOfMemory) => return Err(OutOfMemory),
-            Ok(ScriptLine::Heap(_, _, _)) | Err(CommandRefused::Syntax) => {
-                text.push_str("no command\n")?;
-                return Ok((Settled { desk }, false));
-            }
-        };
-        if let Some(reason) = desk.fault(&command) {
-            writeln!(text, "{reason:?}")?;
-            return Ok((Settled { desk }, false));
-        }
-        match desk.run(&command)? {
-            Said::Nothing => {}
-            said => writeln!(text, "{said:?}")?,
-        }
-        Ok((Settled { desk }, true))
+/// Appends what a command answered.
+fn tell(text: &mut String, said: &Said) -> Result<(), OutOfMemory> {
+    match said {
+        Said::Nothing => {}
+        said => writeln!(text, "{said:?}")?,
     }
+    Ok(())
+}
+
+/// Appends why a command is refused.
+fn refuse(text: &mut String, reason: Reason) -> Result<(), OutOfMemory> {
+    writeln!(text, "{reason:?}")?;
+    Ok(())
+}
+
+/// Does what the line says, and appends what it answers, or why it is refused. Whether it isn't refused.
+fn take(desk: &mut Desk, alloc: Global, line: &[u8], text: &mut String) -> Result<bool, OutOfMemory>
+    requires { IsSettled desk.old.plain }
+    ensures { IfOk result (λ goes_on. IsSettled desk.new.plain) }
+{
+    let Some(command) = command_of(alloc, line)? else {
+        text.push_str("no command\n")?;
+        return Ok(false);
+    };
+    if let Some(reason) = desk.fault(&command) {
+        refuse(text, reason)?;
+        return Ok(false);
+    }
+    let said = desk.run(&command)?;
+    tell(text, &said)?;
+    Ok(true)
 }
 
 /// Plays commands on a heap of so many slots, strong cells and weak cells. What they answer, and what is left.
@@ -51,19 +59,18 @@ fn play(
     alloc: Global,
     (slots, cells, weak_cells): (u32, u32, u32),
     lines: &[u8],
-) -> Result<(String, Settled), OutOfMemory> {
+) -> Result<(String, Desk), OutOfMemory>
+    ensures { IfOk result (λ played. IsSettled played.1.plain) }
+{
     assert!(rt; 0 < slots && slots <= 100_000 && cells <= 2 && weak_cells <= 1);
-    let desk = Desk::open(alloc, slots, cells, weak_cells)?;
-    let mut state = Settled { desk };
+    let mut desk = Desk::open(alloc, slots, cells, weak_cells)?;
     let mut text = String::new(alloc);
     for line in Lines::new(lines) {
-        let (next, goes_on) = state.take(alloc, line.bytes, &mut text)?;
-        state = next;
-        if !goes_on {
+        if !take(&mut desk, alloc, line.bytes, &mut text)? {
             break;
         }
     }
-    Ok((text, state))
+    Ok((text, desk))
 }
 
 /// Scripts: the sizes of the heap, the commands, and what they answer.
@@ -170,7 +177,7 @@ fn what_is_left_is_given_up(rt: HostRuntime) -> Result<(), Fail> {
     let lines = b"make a 3\nmake b 4\nput @0 b\nsnap @0 s\nweaken a w\n";
     let (text, left) = play(&rt, rt.alloc(), (2, 1, 0), lines)?;
     assert!(rt; text.as_str() == "Made\nMade\nSnapped\n");
-    let mut heap = left.desk.close();
+    let mut heap = left.close();
     assert!(rt; matches!(heap.settle(), Ok(3)));
     assert!(rt; matches!(heap.settle(), Ok(0)));
     Ok(())

@@ -1,5 +1,5 @@
 -- What a player has after a call, by what became of the lists of its seat.
-use Rattle.std.proofs.Common.{◌≡◌, ℕ, ◌<◌, List, [], ◌∷◌, ◌++◌, subst, sym}
+use Rattle.std.proofs.Common.{◌≡◌, ◌<◌, List, [], ◌∷◌, ◌++◌, subst, sym}
 use Rattle.control_word.specs.plain_state.declared.slot.SlotId.{SlotId}
 use Rattle.control_word.specs.plain_state.Lists.{times}
 use Rattle.control_word.specs.core_events.Steps.{HasRoom}
@@ -8,7 +8,7 @@ use Rattle.control_word.specs.acquire_retire.Domains.{DomainState}
 use Rattle.control_word.specs.acquire_retire.Seats.{SeatState}
 use Rattle.control_word.specs.Resting.{IsAtRest}
 use Rattle.handle_tests.specs.Plays.{IsWithin, Plays}
-use Rattle.handle_tests.proofs.Within.{within_less, within_more}
+use Rattle.handle_tests.proofs.Within.{within_fewer, within_less, within_more, within_none, within_some}
 
 module _ {P V : Type 0} (d : DomainState P) (old new : SeatState V) (xs ws : List SlotId)
     (rest : IsAtRest d new) (room : HasRoom new.view.core) where
@@ -67,3 +67,42 @@ module _ {P V : Type 0} (d : DomainState P) (old new : SeatState V) (xs ws : Lis
       strong = subst (IsWithin xs) (sym owned) plays.strong;
       weak = subst (IsWithin ws) (sym weaks) (within_less s ws old.view.core.weaks plays.weak);
     }
+
+-- a reference that isn't listed any more is owned still
+module _ {P V : Type 0} {d : DomainState P} {seat : SeatState V} (xs ws : List SlotId) (s : SlotId)
+  where
+    pub unlisted : Plays d seat (xs ++ s ∷ []) ws → Plays d seat xs ws
+    unlisted plays = record {
+      rest = plays.rest;
+      room = plays.room;
+      strong = within_fewer s xs seat.view.core.owned plays.strong;
+      weak = plays.weak;
+    }
+
+    pub unlisted_weak : Plays d seat xs (ws ++ s ∷ []) → Plays d seat xs ws
+    unlisted_weak plays = record {
+      rest = plays.rest;
+      room = plays.room;
+      strong = plays.strong;
+      weak = within_fewer s ws seat.view.core.weaks plays.weak;
+    }
+
+    pub owned_last : Plays d seat (xs ++ s ∷ []) ws → 0 < times s seat.view.core.owned
+    owned_last plays = within_some s xs seat.view.core.owned plays.strong
+
+    pub owned_last_weak : Plays d seat xs (ws ++ s ∷ []) → 0 < times s seat.view.core.weaks
+    owned_last_weak plays = within_some s ws seat.view.core.weaks plays.weak
+
+-- a free seat without references
+pub plays_none : {P V : Type 0} {d : DomainState P} {seat : SeatState V} {xs ws : List SlotId}
+    → IsAtRest d seat → HasRoom seat.view.core → xs ≡ [] → ws ≡ [] → Plays d seat xs ws
+plays_none {seat = seat} rest room no_strong no_weak = record {
+  rest = rest;
+  room = room;
+  strong =
+      subst (λ (zs : List SlotId). IsWithin zs seat.view.core.owned) (sym no_strong)
+      (within_none seat.view.core.owned);
+  weak =
+      subst (λ (zs : List SlotId). IsWithin zs seat.view.core.weaks) (sym no_weak)
+      (within_none seat.view.core.weaks);
+}
