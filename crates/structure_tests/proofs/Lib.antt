@@ -4,3 +4,5 @@ pub mod Enclosed
 pub mod Seen
 pub mod Returned
 pub mod Joined
+pub mod Still
+pub mod TextsKept

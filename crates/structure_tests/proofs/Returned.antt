@@ -1,11 +1,17 @@
 -- A reference that was taken and given up again: each slot is owned as often as before.
-use Rattle.std.proofs.Common.{◌≡◌, ◌<◌, List, [], ◌∷◌, ◌++◌, arith, refl}
+use Rattle.std.proofs.Common.{◌≡◌, ◌<◌, ℕ, List, [], ◌∷◌, ◌++◌, ap, arith, refl, sym, ◌∙◌}
 use Rattle.part_calls.specs.plain_state.declared.slot.SlotId.{SlotId}
 use Rattle.part_calls.specs.plain_state.Lists.{times}
 use Rattle.part_calls.specs.core_events.declared.view.CoreView.{CoreView}
 use Rattle.part_calls.specs.core_events.Views.{without}
 use Rattle.part_calls.proofs.Below.core_law_Kit.{one_same, times_push, times_without}
+use Rattle.part_calls.specs.acquire_retire.Calls.{IsSameView, same_view}
+use Rattle.part_calls.specs.acquire_retire.Domains.{DomainState}
+use Rattle.part_calls.specs.acquire_retire.Seats.{SeatState}
+use Rattle.part_calls.specs.control_word.Calls.{DropsStrong, GainsStrong, without_strong}
+use Rattle.part_calls.specs.control_word.Moves.{KnowsStill}
 use Rattle.part_calls.specs.control_word.Resting.{IsUnderNone}
+use Rattle.weak_intern.proofs.Below.record_making_Dropped.{dropped}
 use Rattle.weak_intern.specs.text_reading.Reading.{HasTwoFree}
 
 pub back_again : (xs ys zs : List SlotId) (s : SlotId)
@@ -36,3 +42,15 @@ one_after xs ys zs s same more x =
 
 pub two_free : (v : CoreView) → IsUnderNone v → HasTwoFree v
 two_free v none = (1, 2, omega arith, omega arith, omega arith, none 1, none 2)
+
+-- so it is after a copy that was given up at once
+module _ {P V : Type 0} (d : DomainState P) (old mid new : SeatState V) (s more : SlotId) where
+  pub copied_back : (fits : List ℕ → Type 0) → more ≡ s
+      → GainsStrong fits d same_view IsSameView s old mid → DropsStrong fits d more mid new
+      → KnowsStill (without_strong more mid.view.core) mid new → (x : SlotId)
+      → times x new.view.core.owned ≡ times x old.view.core.owned
+  copied_back fits is gains drops knows =
+      back_again old.view.core.owned mid.view.core.owned new.view.core.owned more
+      (λ x. ap (λ (v : CoreView). times x v.owned) gains.core
+      ∙ ap (λ (y : SlotId). times x (old.view.core.owned ++ y ∷ [])) (sym is))
+      (dropped mid new more fits d drops knows).owns

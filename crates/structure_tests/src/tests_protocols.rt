@@ -1,12 +1,13 @@
 //! A protocol and a deed are proved from their bounds alone; here each bound is met once, by deeds that no call of a
 //! queue or of the directory takes.
+ghost use Rattle.std.specs.Prelude.{◌≡◌};
 ghost use Rattle.part_calls.specs.plain_protocol.Laws.{KeptByCalm, KeptByForeign, KeptByLeave, Keeps, Starts};
 
 use hand_queues::{FindSet, LearnItem, LearnTail, QueueLaw};
 use part_calls::{Deed, Pair, Protocol, Still};
 use weak_intern::{DirectoryLaw, ForgetEnded};
 
-/// What a domain cites of a protocol and a deed.
+/// What a domain cites of a protocol and a deed, both of which it answers; the protocol is as it was.
 fn cite<P: Protocol, D: Deed<P>>(of: P, it: D) -> (P, D)
     ensures start { Starts (P.law of) (P.first of) }
     ensures calm { KeptByCalm (P.law of) }
@@ -18,6 +19,7 @@ fn cite<P: Protocol, D: Deed<P>>(of: P, it: D) -> (P, D)
       tickets = P.owns_tickets of;
     }) }
     ensures keeps { Keeps (P.law of) P.gone (D.ready it of) (D.next it of) (D.allows it of) }
+    ensures same { result.0 ≡ of }
 {
     (of, it)
 }

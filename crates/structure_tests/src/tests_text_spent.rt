@@ -16,14 +16,14 @@ use std::thread::Threads;
 use weak_intern::{Directory, DirectoryLaw, MakeError, copy_strong, draw, drop_strong, intern};
 
 /// Uses an add for a copy that is given up at once. Whether there was one.
-fn use_add(domain: &Domain<DirectoryLaw>, seat: &mut Seat<DirectoryLaw>, record: &Strong) -> bool
+fn use_add(domain: &Domain<DirectoryLaw>, seat: &mut Seat<DirectoryLaw>, held: &Strong) -> bool
     requires ready { IsReady domain.now seat.old }
-    requires owned { 0 < times record.now.slot seat.old.view.core.owned }
+    requires owned { 0 < times held.now.slot seat.old.view.core.owned }
     ensures spends { Spends 0 seat.old seat.new }
     ensures owns { Owns seat.old seat.new }
     ensures ready { IsReady domain.now seat.new }
 {
-    match copy_strong(domain, seat, record) {
+    match copy_strong(domain, seat, held) {
         Ok(more) => {
             drop_strong(domain, seat, more);
             true
@@ -33,15 +33,15 @@ fn use_add(domain: &Domain<DirectoryLaw>, seat: &mut Seat<DirectoryLaw>, record:
 }
 
 /// Uses up all adds, of which there are fewer than a hundred.
-fn use_up(domain: &Domain<DirectoryLaw>, seat: &mut Seat<DirectoryLaw>, record: &Strong)
+fn use_up(domain: &Domain<DirectoryLaw>, seat: &mut Seat<DirectoryLaw>, held: &Strong)
     requires ready { IsReady domain.now seat.old }
-    requires owned { 0 < times record.now.slot seat.old.view.core.owned }
+    requires owned { 0 < times held.now.slot seat.old.view.core.owned }
     ensures spends { Spends 0 seat.old seat.new }
     ensures owns { Owns seat.old seat.new }
     ensures ready { IsReady domain.now seat.new }
 {
     for _add in 0..100 {
-        if !use_add(domain, seat, record) {
+        if !use_add(domain, seat, held) {
             return;
         }
     }

@@ -1,6 +1,6 @@
 //! Senders and takers in threads, on one queue. Each letter is taken once, each taker takes the letters of one sender
 //! in that sender's order, and once the queue is shut nothing is left.
-ghost use Rattle.std.specs.Prelude.{◌≡◌, All};
+ghost use Rattle.std.specs.Prelude.{◌≡◌, ◌≤◌, All, length};
 ghost use Rattle.part_calls.specs.Parts.{as_part};
 ghost use Rattle.structure_tests.specs.Ready.{IsFree, IsReady};
 
@@ -117,13 +117,15 @@ fn sum_up<H: HandQueue>(
 }
 
 /// Half of the seats beside seat 0 are senders, and half are takers, each in a thread of its own, on a queue of this
-/// form. `None` where a seat hasn't left.
+/// form. There are five seats at most. `None` where a seat hasn't left.
 fn pass_all<R: Threads + Wait + Sync>(
     rt: &R,
     alloc: Global,
     form: Form,
     quotas: &[Quota],
-) -> Result<Option<Passed>, Fail> {
+) -> Result<Option<Passed>, Fail>
+    requires { length quotas.now ≤ 5 }
+{
     let seats = quotas.len() as u32;
     let senders = u64::from(seats / 2);
     let Opened {
