@@ -7,3 +7,4 @@ pub mod Unread
 pub mod Written
 pub mod Drawn
 pub mod Lines
+pub mod Processed

@@ -3,3 +3,4 @@ pub mod Jobs
 pub mod Outputs
 pub mod Ends
 pub mod Closings
+pub mod Processes

@@ -5,7 +5,6 @@ use Rattle.command_line.specs.cdrc_text.Fold.{AreDistinct, File}
 use Rattle.command_line.specs.cdrc_text.Pieces.{pieces_of}
 use Rattle.command_line.specs.cdrc_text.Report.{closing_lines}
 use Rattle.command_line.specs.cdrc_text.Text.{totals_in}
-use Rattle.cdrc_scripts.specs.control_word.Resting.{IsSpent}
 use Rattle.cdrc_scripts.specs.acquire_retire.Seats.{SeatState}
 use Rattle.words_work.specs.words_law.Views.{View}
 use Rattle.cdrc_scripts.specs.Domains.{IsScriptOn}
@@ -100,15 +99,16 @@ module _ (fits : List ℕ → Type 0) where
       limits.IsWithinLimits 1 (drawn_texts drawn)
       × words.IsFull fits (drawn_plan drawn) (drawn_texts drawn) seat
 
--- the same, since this seat had no add left
+-- the same, since this seat of a domain for the work has used all of its adds
 abbrev pub IsSpentFor : Job → Told → SeatState View → Type 0
 IsSpentFor (count names plan) told seat =
-    words.OnContents told names plan.rounds (λ contents. IsSpent seat.view.core)
+    words.OnContents told names plan.rounds (λ contents. words.IsSpentOn plan contents seat)
 IsSpentFor (script file) told seat = ⊥
 IsSpentFor (steps file) told seat = ⊥
 IsSpentFor (draw draws) told seat = ⊥
 IsSpentFor (bulk drawn) told seat =
-    limits.IsWithinLimits 1 (drawn_texts drawn) × IsSpent seat.view.core
+    limits.IsWithinLimits 1 (drawn_texts drawn)
+    × words.IsSpentOn (drawn_plan drawn) (drawn_texts drawn) seat
 
 -- why there is no output
 abbrev pub IsWhyNoOutput : (List ℕ → Type 0) → Job → Told → words.Counts → WordsRefused → Type 0

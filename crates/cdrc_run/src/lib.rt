@@ -24,10 +24,12 @@ mod explaining;
 mod jobs;
 mod outcome;
 mod output;
+mod processing;
 mod running;
 mod starting;
 
 pub use explaining::{exit_status, explain};
 pub use outcome::{End, Why};
+pub use processing::{HostLines, StatusLines, process};
 pub use running::run;
 pub use starting::start;

@@ -1,10 +1,8 @@
 //! A run for a process.
-ghost use Rattle.std.specs.Prelude.{IfOk};
 ghost use Rattle.std.specs.Process.{exit_status as status_of_process};
 ghost use Rattle.cdrc_run.specs.Statuses.{IsStatus};
 
-use crate::explaining::{exit_status, explain};
-use crate::running::run;
+use crate::processing::{HostLines, process};
 use std::env;
 use std::io::{Eprint, ErrorKind, Print};
 use std::process::ExitCode;
@@ -18,30 +16,27 @@ use words_work::{HostFiles, HostSink, Open};
 /// to standard error. The exit code is the status of the run; where the words can't be had, it is 9 for an allocation
 /// failure, and else 2.
 ///
-/// Its steps are those of the run.
+/// All that it does beside is to take the words and to hand over the host's parts: `process` does the rest. Its steps are
+/// those of the run.
 pub fn start<R: Env + Files + Print + Eprint + AllocGlobal + Threads + Wait + Sync>(
     rt: &R,
 ) -> ExitCode
     ensures { IsStatus (status_of_process result) }
 {
-    let status = exit_status(host_run(rt));
-    if status != 0 {
-        let _ = rt.eprintln(explain(status));
-    }
-    ExitCode::from(status)
-}
-
-/// The status of a run of the command line's words over the host's files and standard output. Err where there are no
-/// words to run.
-fn host_run<R: Env + Files + Print + AllocGlobal + Threads + Wait + Sync>(
-    rt: &R,
-) -> Result<u8, ErrorKind>
-    ensures { IfOk result IsStatus }
-{
-    let words = command_line(rt)?;
     let mut files = HostFiles::new(rt);
     let mut sink = HostSink::new(rt);
-    Ok(run(rt, rt.alloc(), &words, &mut files, &mut sink, &Open).status)
+    let mut lines = HostLines::new(rt);
+    let words = command_line(rt);
+    let status = process(
+        rt,
+        rt.alloc(),
+        words,
+        &mut files,
+        &mut sink,
+        &Open,
+        &mut lines,
+    );
+    ExitCode::from(status)
 }
 
 /// The words after the program's name.

@@ -165,6 +165,8 @@ module _ (d : DomainState WordsLaw) (is : IsDomainForSome d) where
         → HasOnlyLaid is.form root
     only_laid deeds = record {
       number = ap (λ (v : CoreView). v.seat) leaves.same;
+      quota = ap (λ (v : CoreView). v.quota) leaves.same
+          ∙ ap (λ (ts : Terms). quota_at ts.quotas 0) is.is.terms;
       owned = λ x. leaves.owns x ∙ times_none x;
       weaks = ap (λ (v : CoreView). v.weaks) leaves.same;
       notes = ap (λ (v : CoreView). v.notes) leaves.same;

@@ -100,6 +100,7 @@ fresh_lanes d lanes = each_from 1 lanes (fresh_seat d)
 -- no text.
 pub record HasOnlyLaid (form : Form) (root : SeatState View) : Type 0 where
   pub number : root.view.core.seat ≡ 0
+  pub quota : root.view.core.quota ≡ root_quota
   pub owned : (x : SlotId) → times x root.view.core.owned ≡ 0
   pub weaks : root.view.core.weaks ≡ []
   pub notes : root.view.core.notes ≡ no_notes

@@ -1,8 +1,12 @@
 -- Why nothing was counted, where a lane was refused.
-use Rattle.std.proofs.Common.{◌+◌, ◌≡◌, inl, inr, ℕ, List, [], ◌∷◌, Option, Some, None, refl, sym, ap, subst, ◌∙◌, arith}
+use Rattle.std.proofs.Common.{◌+◌, ◌≡◌, ◌<◌, ◌^◌, inl, inr, ℕ, suc, List, [], ◌∷◌, Option, Some, None, refl, sym, ap, subst, ◌∙◌, arith}
 use Rattle.std.specs.Prelude.{length, slice_index_or, Result}
 use Rattle.std.proofs.Math.Seq.{get_or-append_seam}
-use Rattle.std.proofs.lemmas.List.{length-append}
+use Rattle.std.proofs.lemmas.List.{get_or-replicate, length-append}
+use Rattle.domain_audit.specs.core_events.Views.{Terms}
+use Rattle.domain_audit.specs.core_events.declared.shape.Quota.{Quota}
+use Rattle.domain_audit.specs.domain_rule.Views.{quota_at}
+use Rattle.domain_audit.specs.acquire_retire.Calls.{IsOf}
 use Rattle.domain_audit.specs.acquire_retire.Domains.{DomainState}
 use Rattle.domain_audit.specs.acquire_retire.Seats.{SeatState}
 use Rattle.domain_audit.specs.control_word.Resting.{IsSpent}
@@ -34,13 +38,53 @@ use Rattle.lane_domain.specs.lane_files.Makes.{HasItsMakes, cause_of}
 use Rattle.lane_domain.proofs.Below.lane_files_Owning.{owns_no_node}
 use Rattle.lane_domain.proofs.Below.lane_files_Pushed.{full_scanned}
 use Rattle.domain_audit.proofs.Below.core_law_Each.{get_each, length_each}
-use Rattle.lane_domain.specs.Opened.{FindsNoSlot, IsDomainFor, fresh_lanes, fresh_seat}
+use Rattle.lane_domain.specs.Opened.{FindsNoSlot, IsDomainFor, fresh_lanes, fresh_seat, lane_quota, root_quota, terms_for}
 use Rattle.lane_domain.proofs.Enough.{attached_makes, makes_left, slots_lacked}
 use Rattle.lane_domain.specs.declared.ending.LaneEnd.{LaneEnd}
 use Rattle.lane_domain.specs.Beginning.{Attaches, HasDoneNothing}
 use Rattle.lane_domain.specs.Ending.{EndAll, EndsLane, RunsOrStops}
 use Rattle.lane_reports.specs.declared.counted.CountError.{CountError}
-use Rattle.lane_reports.specs.Refusals.{IsAnswerFor, IsFirstRefusal, IsWhyNothing}
+use Rattle.lane_reports.specs.Refusals.{HasSpentAll, IsAnswerFor, IsFirstRefusal, IsWhyNothing}
+use Rattle.lane_reports.specs.Rows.{IsWhyNoReport, IsWhyNoRows}
+use Rattle.lane_reports.specs.declared.refusal.RowsError.{RowsError}
+use Rattle.lane_reports.specs.declared.refusal.RowsError.TheVariants as rows
+
+-- a lane's quota is that of its terms
+lane_quota_at : (work : Work) (lanes slots : ℕ) (form : Form) (d : DomainState WordsLaw)
+    → IsDomainFor work lanes slots form d → (n : ℕ) → n < lanes
+    → quota_at d.terms.quotas (1 + n) ≡ lane_quota
+lane_quota_at work lanes slots form d is n less =
+    let at : 1 + n ≡ suc n = omega arith in
+    ap (λ (ts : Terms). quota_at ts.quotas (1 + n)) is.terms
+    ∙ ap (quota_at (terms_for work lanes).quotas) at
+    ∙ get_or-replicate lanes n lane_quota (record { makes = 0; adds = 0 }) less
+
+-- why there is no report, of a seat that is the domain's and has its quota still
+pub no_report : (d : DomainState WordsLaw) (error : RowsError) (old new : SeatState View)
+    → IsWhyNoRows error new → IsOf d new → new.view.core.quota ≡ old.view.core.quota
+    → IsWhyNoReport d error old new
+no_report d rows.Spent old new spent of quota = (spent, of, quota)
+no_report d rows.OutOfMemory old new spent of quota = tt
+
+-- the same of a seat whose quota was so before
+pub no_report_since : (d : DomainState WordsLaw) (error : RowsError) (old mid new : SeatState View)
+    → mid.view.core.quota ≡ old.view.core.quota → IsWhyNoReport d error mid new
+    → IsWhyNoReport d error old new
+no_report_since d rows.Spent old mid new was why = (why.0, why.1, why.2 ∙ was)
+no_report_since d rows.OutOfMemory old mid new was why = tt
+
+-- seat 0 had used all its adds when it made the report
+pub root_spent : (work : Work) (lanes slots : ℕ) (form : Form) (d : DomainState WordsLaw)
+    → IsDomainFor work lanes slots form d → (old new : SeatState View)
+    → old.view.core.quota ≡ root_quota → IsWhyNoReport d rows.Spent old new
+    → HasSpentAll work lanes slots form new
+root_spent work lanes slots form d is old new quota why = record {
+  domain = d;
+  is = is;
+  of_domain = why.1;
+  quota = ap (λ (q : Quota). q.adds) (why.2 ∙ quota);
+  spent = why.0;
+}
 
 IsAdds : Option MakeError → Type 0
 IsAdds None = ⊥
@@ -99,19 +143,30 @@ module _ (fits : List ℕ → Type 0) (d : DomainState WordsLaw) where
     module _ (lanes slots : ℕ) (form : Form) (is : IsDomainFor work lanes slots form d) where
       stop_why : (stop : LaneStop) (begun seat : SeatState View) (before after : Lane)
           (error : CountError) → StopsLane fits d work stop begun seat before after
-          → HasItsMakes d begun → HasDoneNothing begun → (o : Option MakeError)
+          → HasItsMakes d begun → HasDoneNothing begun → IsOf d seat
+          → seat.view.core.quota.adds ≡ 2 ^ 40 → (o : Option MakeError)
           → cause_of stop ≡ o → IsAnswerFor o seat error
           → IsWhyNothing fits work lanes slots form error
       unfolding IsAdds
-      stop_why stop begun seat before after error stops has new None cause answer =
+      stop_why stop begun seat before after error stops has new of quota None cause answer =
           subst (IsWhyNothing fits work lanes slots form) (sym answer) tt
-      stop_why stop begun seat before after error stops has new (Some unmade.AddsSpent) cause answer =
-          subst (IsWhyNothing fits work lanes slots form) (sym answer)
-          (stop_spent stop stops.last seat stops.lane after (subst IsAdds (sym cause) tt) stops.why)
-      stop_why stop begun seat before after error stops has new (Some unmade.MakesSpent) cause answer =
+      stop_why stop begun seat before after error stops has new of quota (Some unmade.AddsSpent)
+          cause answer =
+          subst (IsWhyNothing fits work lanes slots form) (sym answer) (record {
+            domain = d;
+            is = is;
+            of_domain = of;
+            quota = quota;
+            spent =
+                stop_spent stop stops.last seat stops.lane after (subst IsAdds (sym cause) tt)
+                stops.why;
+          })
+      stop_why stop begun seat before after error stops has new of quota (Some unmade.MakesSpent)
+          cause answer =
           absurd (makes_left fits work lanes slots form d stop begun seat before after is has stops
           cause)
-      stop_why stop begun seat before after error stops has new (Some unmade.Full) cause answer =
+      stop_why stop begun seat before after error stops has new of quota (Some unmade.Full) cause
+          answer =
           subst (IsWhyNothing fits work lanes slots form) (sym answer) (
             d,
             is,
@@ -157,5 +212,9 @@ module _ (fits : List ℕ → Type 0) (d : DomainState WordsLaw) where
           stop_why refusal.0 ends_one.begun ended.seat ends_one.lane ended.lane error
           (subst (λ (r : Result (Unit {0}) LaneStop).
           RunsOrStops fits d work r ends_one.begun ended.seat ends_one.lane ended.lane)
-          refusal.1 ends_one.runs) has ends_one.attaches.nothing (cause_of refusal.0) refl
-          refusal.2
+          refusal.1 ends_one.runs) has ends_one.attaches.nothing ends_one.ready.rest.of_domain
+          (ap (λ (v : CoreView). v.quota.adds) ends_one.same
+          ∙ ap (λ (x : SeatState View). x.view.core.quota.adds) at
+          ∙ ap (λ (q : Quota). q.adds)
+          (lane_quota_at work lanes slots form d is n (omega (arith, many, size, l, count, every))))
+          (cause_of refusal.0) refl refusal.2

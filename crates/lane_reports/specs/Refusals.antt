@@ -1,5 +1,6 @@
 -- Why nothing was counted.
-use Rattle.std.specs.Prelude.{ℕ, ◌≡◌, ◌⊎◌, ◌<◌, ◌+◌, ◌*◌, List, ◌∷◌, ◌++◌, Option, Some, None, Err}
+use Rattle.std.specs.Prelude.{ℕ, ◌≡◌, ◌⊎◌, ◌<◌, ◌+◌, ◌*◌, ◌^◌, List, ◌∷◌, ◌++◌, Option, Some, None, Err}
+use Rattle.domain_audit.specs.acquire_retire.Calls.{IsOf}
 use Rattle.domain_audit.specs.acquire_retire.Domains.{DomainState}
 use Rattle.domain_audit.specs.acquire_retire.Seats.{SeatState}
 use Rattle.domain_audit.specs.control_word.Resting.{IsSpent}
@@ -52,12 +53,22 @@ module _ (fits : List ℕ → Type 0) (work : Work) (d : DomainState WordsLaw) w
     pub stops : StopsLane fits d work stop begun seat before after
     pub cause : cause_of stop ≡ Some unmade.Full
 
--- Why nothing was counted: there was no memory; or this seat has no add left; or in a domain for this work, which has
--- fewer slots than makes, seat 0 found each slot taken before the lanes began, or a lane did. That seat has made at
--- least as many whole scans as it pushed items, and owns no node of the queue.
+-- A seat of a domain for this work has used all adds of its quota, which is as large as that of any seat.
+pub record HasSpentAll (work : Work) (lanes slots : ℕ) (form : Form) (seat : SeatState View)
+    : Type 0 where
+  pub domain : DomainState WordsLaw
+  pub is : IsDomainFor work lanes slots form domain
+  pub of_domain : IsOf domain seat
+  pub quota : seat.view.core.quota.adds ≡ 2 ^ 40
+  pub spent : IsSpent seat.view.core
+
+-- Why nothing was counted: there was no memory; or this seat of a domain for this work has used all of its 2^40 adds; or
+-- in a domain for this work, which has fewer slots than makes, seat 0 found each slot taken before the lanes began, or a
+-- lane did. That seat has made at least as many whole scans as it pushed items, and owns no node of the queue.
 abbrev pub IsWhyNothing : (List ℕ → Type 0) → Work → ℕ → ℕ → Form → CountError → Type 0
 IsWhyNothing fits work lanes slots form refused.OutOfMemory = Unit {0}
-IsWhyNothing fits work lanes slots form (refused.Spent seat) = IsSpent seat.view.core
+IsWhyNothing fits work lanes slots form (refused.Spent seat) =
+    HasSpentAll work lanes slots form seat
 IsWhyNothing fits work lanes slots form (refused.Full seat) =
     (d : DomainState WordsLaw) × IsDomainFor work lanes slots form d
     × (slots < work.rounds * (all_pieces work + all_parts work) + 2)

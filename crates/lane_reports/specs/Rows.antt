@@ -5,7 +5,10 @@ use Rattle.law_lesson.specs.plain_state.Lists.{times}
 use Rattle.law_lesson.specs.plain_state.References.{strong_refs}
 use Rattle.law_lesson.specs.plain_state.State.{Plain}
 use Rattle.tally_sums.specs.cdrc_text.declared.row.Row.{Row}
+use Rattle.domain_audit.specs.acquire_retire.Calls.{IsOf}
+use Rattle.domain_audit.specs.acquire_retire.Domains.{DomainState}
 use Rattle.domain_audit.specs.acquire_retire.Seats.{SeatState}
+use Rattle.lane_domain.specs.words_protocol.declared.law.WordsLaw.{WordsLaw}
 use Rattle.domain_audit.specs.control_word.Resting.{IsSpent}
 use Rattle.words_rest.specs.words_law.Views.{View}
 use Rattle.words_rest.specs.Kept.{TellsWord}
@@ -57,3 +60,10 @@ AreRowsOf p (r ∷ records) (row ∷ rows) = IsRowOf p r row × AreRowsOf p reco
 abbrev pub IsWhyNoRows : RowsError → SeatState View → Type 0
 IsWhyNoRows refused.Spent seat = IsSpent seat.view.core
 IsWhyNoRows refused.OutOfMemory seat = Unit {0}
+
+-- why there is no report: the same, and the seat is the domain's still, and its quota what it was
+abbrev pub IsWhyNoReport : DomainState WordsLaw → RowsError → SeatState View → SeatState View
+    → Type 0
+IsWhyNoReport d refused.Spent old new =
+    IsSpent new.view.core × IsOf d new × (new.view.core.quota ≡ old.view.core.quota)
+IsWhyNoReport d refused.OutOfMemory old new = Unit {0}

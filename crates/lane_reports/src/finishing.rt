@@ -13,7 +13,7 @@ ghost use Rattle.lane_reports.specs.Counting.{CountsAll};
 ghost use Rattle.lane_reports.specs.Gathering.{EachDid, IsBare};
 ghost use Rattle.lane_reports.specs.Holders.{IsRoot};
 ghost use Rattle.lane_reports.specs.Reporting.{HasCounted, HasNothing};
-ghost use Rattle.lane_reports.specs.Rows.{IsWhyNoRows};
+ghost use Rattle.lane_reports.specs.Rows.{IsWhyNoReport};
 
 use crate::audits::{audit_at_rest, audit_line, list_ranks};
 use crate::done::{Done, Gathered};
@@ -53,7 +53,7 @@ fn write_report<R: Threads + Wait + Sync, F: Fn(&[u64; 16]) -> u64>(
     requires cells { domain.now.shape.cells ≡ 2 }
     requires weighs { Weighs ⟦<PairKind<NodeKind, RecordKind> as PayloadKind>⟧.fits
         ⟦<PairKind<NodeKind, RecordKind> as PayloadKind>⟧.weight F.Fn weigh.now }
-    ensures why { IfErr result (λ error. IsWhyNoRows error root.new) }
+    ensures why { IfErr result (λ error. IsWhyNoReport domain.now error root.old root.new) }
     ensures report { IfOk result (λ text.
         IsReport (texts_in work.now) work.now.rounds text.items) }
     ensures nothing { OnOk result (HasNothing root.new.view.core) }
@@ -105,7 +105,7 @@ pub(crate) fn finish<R: Threads + Wait + Sync, F: Fn(&[u64; 16]) -> u64>(
     requires cells { domain.now.shape.cells ≡ 2 }
     requires weighs { Weighs ⟦<PairKind<NodeKind, RecordKind> as PayloadKind>⟧.fits
         ⟦<PairKind<NodeKind, RecordKind> as PayloadKind>⟧.weight F.Fn weigh.now }
-    ensures why { IfErr result (λ error. IsWhyNoRows error root.new) }
+    ensures why { IfErr result (λ error. IsWhyNoReport domain.now error root.old root.new) }
     ensures report { IfOk result (λ r.
         IsReport (texts_in work.now) work.now.rounds r.0.items) }
     ensures counts { IfOk result (λ r. CountsAll work.now root.new r.1.items) }

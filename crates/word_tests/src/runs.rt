@@ -145,7 +145,7 @@ fn evidence_that_is_left(rt: HostRuntime) -> Result<(), Fail> {
     ] {
         let (end, _text) = ended(&rt, rt.alloc(), line, &[], 9, &[failing], &Open)?;
         assert!(rt; end.status == status, "{line}");
-        let (found, is_script) = match end.why {
+        let (found, is_script) = match &end.why {
             Why::Words(_, found) => (Some(found.len()), false),
             Why::Script(_) => (None, true),
             Why::Nothing => (None, false),

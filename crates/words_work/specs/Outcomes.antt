@@ -2,7 +2,6 @@
 use Rattle.std.specs.Prelude.{ℕ, ◌≡◌, ◌<◌, ◌⊎◌, List, length, map, Ok, Err}
 use Rattle.std.specs.declared.result.Result.{Result}
 use Rattle.std.specs.Global.{Vec}
-use Rattle.lane_reports.specs.control_word.Resting.{IsSpent}
 use Rattle.lane_reports.specs.acquire_retire.Seats.{SeatState}
 use Rattle.lane_reports.specs.words_law.Views.{View}
 use Rattle.lane_reports.specs.cdrc_text.Pieces.{pieces_of}
@@ -11,7 +10,7 @@ use Rattle.lane_reports.specs.lane_gate.Causes.{Rose}
 use Rattle.lane_reports.specs.lane_files.declared.work.Work.{Work}
 use Rattle.lane_reports.specs.lane_domain.Sizes.{texts_in}
 use Rattle.lane_reports.specs.Counting.{CountsAll}
-use Rattle.lane_reports.specs.Refusals.{IsWhyNothing}
+use Rattle.lane_reports.specs.Refusals.{HasSpentAll, IsWhyNothing}
 use Rattle.lane_reports.specs.Reporting.{IsLast}
 use Rattle.lane_reports.specs.declared.counted.CountError.TheVariants as uncounted
 use Rattle.words_work.specs.Contents.{AreContents, IsTooLong, Told}
@@ -46,6 +45,14 @@ pub record IsDone (told : Told) (names : List (List ℕ)) (plan : Plan) (done : 
   pub are : AreContents told names contents
   pub counted : IsCounted plan contents done
 
+-- this seat of a domain for the work on the contents has used all of its adds
+pub record IsSpentOn (plan : Plan) (contents : List (List ℕ)) (seat : SeatState View)
+    : Type 0 where
+  pub work : Work
+  pub on : IsWorkOn plan.rounds contents work
+  pub spent :
+      HasSpentAll work plan.lanes (slots_for plan (map pieces_of contents)) plan.form seat
+
 module _ (fits : List ℕ → Type 0) where
   -- fewer slots were asked for than serve, and this seat of a domain for the work on the contents found each one taken
   pub record IsFull (plan : Plan) (contents : List (List ℕ)) (seat : SeatState View) : Type 0 where
@@ -63,7 +70,7 @@ module _ (fits : List ℕ → Type 0) where
   IsWhyUncounted plan contents (refused.Full seat) =
       IsWithinLimits plan.rounds contents × IsFull plan contents seat
   IsWhyUncounted plan contents (refused.Spent seat) =
-      IsWithinLimits plan.rounds contents × IsSpent seat.view.core
+      IsWithinLimits plan.rounds contents × IsSpentOn plan contents seat
   IsWhyUncounted plan contents refused.OutOfMemory = Unit {0}
 
 -- a limit is passed: by the number of files, by their bytes, or by their pieces
@@ -107,7 +114,7 @@ module _ (fits : List ℕ → Type 0) where
   IsWhyNotDone told names plan counts (refused.Full seat) =
       OnContents told names plan.rounds (λ contents. IsFull fits plan contents seat)
   IsWhyNotDone told names plan counts (refused.Spent seat) =
-      OnContents told names plan.rounds (λ contents. IsSpent seat.view.core)
+      OnContents told names plan.rounds (λ contents. IsSpentOn plan contents seat)
   IsWhyNotDone told names plan counts refused.OutOfMemory = Unit {0}
 
 -- a limit was found to be passed, or there was no memory

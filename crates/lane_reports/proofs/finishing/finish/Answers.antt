@@ -1,4 +1,5 @@
 use Rattle.std.proofs.Common.{List, sym, ap, subst, ◌∙◌}
+use Rattle.std.proofs.lemmas.Result.{err_from_is_err_and}
 use Rattle.lane_domain.specs.directory_calls.Directories.{HasQuota}
 use Rattle.domain_audit.specs.core_events.declared.view.CoreView.{CoreView}
 use Rattle.domain_audit.specs.core_events.Steps.{HasRoom}
@@ -12,6 +13,7 @@ use Rattle.lane_reports.specs.Reporting.{HasCounted}
 use Rattle.tally_sums.specs.Sums.{Tallies}
 use Rattle.lane_reports.proofs.Counting.{counts_all}
 use Rattle.lane_reports.proofs.Finished.{all_known}
+use Rattle.lane_reports.proofs.Refused.{no_report, no_report_since}
 use Rattle.lane_reports.proofs.Still.{no_snapshot, two_free}
 use Rattle.lane_reports.proofs.finishing.finish.Goals as goal
 
@@ -68,3 +70,26 @@ returns-clause-counts g c =
     (wrote.left ∙ ap (λ (v : CoreView). v.left_seats) learns.core
     ∙ ap (λ (v : CoreView). v.left_seats) shuts.owns.same
     ∙ ap (λ (v : CoreView). v.left_seats) c.take_rest.ensures.owns.same))
+
+pub returns-in_err-tallies-2-clause-why : goal.returns-in_err-tallies-2-clause-why
+returns-in_err-tallies-2-clause-why g c =
+    let p = err_from_is_err_and c.from_residual-in_err-tallies-2.result
+    c.from_residual-in_err-tallies-2.ensures.1 in
+    rw (p.1, p.2)
+    (no_report c.args.domain.now c.in_err-tallies-2.field-0.0 c.args.root.now c.take_rest.new.root
+    c.in_err-tallies-2.ensures.why c.take_rest.ensures.ready.rest.of_domain
+    (ap (λ (v : CoreView). v.quota) c.take_rest.ensures.owns.same
+    ∙ ap (λ (v : CoreView). v.quota) c.in_ok-tallies.ensures.gathers.beside.core))
+
+pub returns-in_err-text-clause-why : goal.returns-in_err-text-clause-why
+returns-in_err-text-clause-why g c =
+    let p = err_from_is_err_and c.from_residual-in_err-text.result
+    c.from_residual-in_err-text.ensures.1 in
+    rw (p.1, p.2)
+    (no_report_since c.args.domain.now c.in_err-text.field-0.0 c.args.root.now
+    c.holds_nothing-is_null.new.root c.write_report.new.root
+    (ap (λ (v : CoreView). v.quota) c.holds_nothing-is_null.ensures.learns.core
+    ∙ ap (λ (v : CoreView). v.quota) c.shut_and_settle.ensures.shuts.owns.same
+    ∙ ap (λ (v : CoreView). v.quota) c.take_rest.ensures.owns.same
+    ∙ ap (λ (v : CoreView). v.quota) c.in_ok-tallies.ensures.gathers.beside.core)
+    c.in_err-text.ensures.why)

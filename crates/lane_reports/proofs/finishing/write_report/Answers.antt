@@ -2,6 +2,7 @@ use Rattle.std.proofs.Common.{rules, ◌≡◌, List, refl, sym, ap, subst, ◌�
 use Rattle.std.specs.Prelude.{length, slice_index_or}
 use Rattle.std.specs.Vec.{vec_len}
 use Rattle.std.specs.List.{All}
+use Rattle.std.proofs.lemmas.Result.{err_from_is_err_and}
 use Rattle.law_lesson.specs.plain_state.Lists.{times}
 use Rattle.law_lesson.specs.plain_protocol.Owns.{Object}
 use Rattle.domain_audit.specs.core_events.declared.view.CoreView.{CoreView}
@@ -16,6 +17,7 @@ use Rattle.lane_domain.specs.Sizes.{texts_in}
 use Rattle.lane_reports.specs.Rows.{IsRecordOf}
 use Rattle.lane_reports.proofs.Counting.{learns_more}
 use Rattle.lane_reports.proofs.Quiet.{nothing_owned}
+use Rattle.lane_reports.proofs.Refused.{no_report}
 use Rattle.lane_reports.proofs.Writing.{nothing_found, text_is, written}
 use Rattle.lane_reports.proofs.finishing.write_report.Goals as goal
 
@@ -121,3 +123,12 @@ returns-clause-knows g c =
     ∙ c.count_rows.ensures.client ∙ c.audit_at_rest.ensures.client))
     (learns_more c.args.root.now.view.client.1 c.find_records.new.root.view.client.1
     c.find_records.ensures.learns.part)
+
+pub returns-in_err-records-clause-why : goal.returns-in_err-records-clause-why
+returns-in_err-records-clause-why g c =
+    let found = c.find_records.ensures in
+    let p = err_from_is_err_and c.from_residual.result c.from_residual.ensures.1 in
+    rw (p.1, p.2)
+    (no_report c.args.domain.now c.in_err-records.field-0.0 c.args.root.now c.find_records.new.root
+    c.in_err-records.ensures.why found.ready.rest.of_domain
+    (ap (λ (v : CoreView). v.quota) found.leaves.same))

@@ -9,9 +9,11 @@ use Rattle.words_rest.specs.queue_law.declared.view.View.{View as QueueView}
 use Rattle.lane_domain.specs.Opened.{fresh_seat}
 use Rattle.lane_domain.specs.Beginning.{CanBegin}
 use Rattle.lane_domain.proofs.SeatsOpened.{opened_begin}
+use Rattle.lane_reports.specs.Rows.{IsWhyNoReport}
+use Rattle.lane_reports.specs.declared.refusal.RowsError.{RowsError}
 use Rattle.lane_reports.proofs.Begun.{as_many, lanes_did, under_none}
 use Rattle.lane_reports.proofs.Ran.{ran_many}
-use Rattle.lane_reports.proofs.Refused.{lane_why}
+use Rattle.lane_reports.proofs.Refused.{lane_why, root_spent}
 use Rattle.lane_reports.proofs.running.count_words.Goals as goal
 
 pub run_lanes-requires-clause-begin : goal.run_lanes-requires-clause-begin
@@ -76,3 +78,11 @@ finish-requires-clause-some g c κs within =
     let many = as_many _ opened.domain opened.shared c.args.work.now c.args.lanes
     opened.seats.items c.in_ok-ends.ends.items c.in_ok-domain.ensures.seats c.in_ok-ends.ensures in
     let some = c.requires.lanes.0 in omega (arith, done, many, some)
+
+pub returns-in-Err-Spent-clause-why : goal.returns-in-Err-Spent-clause-why
+returns-in-Err-Spent-clause-why g c =
+    let opened = c.in_ok-domain.field-0 in
+    root_spent c.args.work.now c.args.lanes c.args.slots c.args.form opened.domain
+    c.in_ok-domain.ensures.domain opened.root c.finish.new.root c.in_ok-domain.ensures.root.quota
+    (subst (λ (error : RowsError). IsWhyNoReport opened.domain error opened.root c.finish.new.root)
+    c.in-Err-Spent.field-0-is c.in-Err-Spent.ensures.why)

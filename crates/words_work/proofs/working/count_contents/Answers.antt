@@ -6,7 +6,7 @@ use Rattle.lane_reports.specs.lane_domain.Sizes.{texts_in}
 use Rattle.lane_reports.specs.protocol_pairs.Shares.{FitsItsPart}
 use Rattle.lane_reports.specs.queue_protocol.Nodes.{IsNodePayload}
 use Rattle.lane_reports.specs.directory_law.Bytes.{IsPiece}
-use Rattle.lane_reports.specs.Refusals.{IsWhyNothing}
+use Rattle.lane_reports.specs.Refusals.{HasSpentAll, IsWhyNothing}
 use Rattle.lane_reports.specs.Reporting.{IsLast}
 use Rattle.lane_reports.specs.declared.counted.CountError.{CountError}
 use Rattle.lane_reports.specs.declared.counted.CountError.TheVariants as uncounted
@@ -51,5 +51,21 @@ returns-in-Err-Full-clause-why g c =
         on = on;
         full = subst (λ (n : ℕ). IsWhyNothing fits work plan.lanes n plan.form
             (uncounted.Full c.in-Err-Full.seat)) slots why;
+      },
+    )
+
+pub returns-clause-why : goal.returns-clause-why
+returns-clause-why g c =
+    let plan = c.args.plan in let work = c.in_ok-work.work in let on = c.in_ok-work.ensures.on in
+    let slots = c.slots_for-slots.ensures ∙ ap (slots_for plan) on.texts in
+    let fits = FitsItsPart IsNodePayload IsPiece in
+    let why = subst (λ (e : CountError). IsWhyNothing fits work plan.lanes c.slots_for-slots.result plan.form e)
+    c.in-Err-Spent.field-0-is c.in-Err-Spent.ensures.why in (
+      c.in_ok-work.ensures.within,
+      record {
+        work = work;
+        on = on;
+        spent = subst (λ (n : ℕ). HasSpentAll work plan.lanes n plan.form c.in-Err-Spent.seat)
+            slots why;
       },
     )
