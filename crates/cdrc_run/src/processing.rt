@@ -47,8 +47,8 @@ impl<P: Eprint> StatusLines for HostLines<'_, P> {
 }
 
 /// Runs the program for a process that has these words, or none for this cause, and answers its exit status: that of
-/// the run; where the words can't be had, 9 for an allocation failure, and else 2. For a status other than 0 it asks for
-/// the line of that status.
+/// the run; where the words can't be had, 9 for an allocation failure, and else 2. For a status other than 0 it asks
+/// for the line of that status. Its steps are those of the run.
 pub fn process<R: Threads + Wait + Sync, F: Files, K: Sink, G: Gate + Sync, L: StatusLines>(
     rt: &R,
     alloc: Global,

@@ -16,8 +16,8 @@ use words_work::{HostFiles, HostSink, Open};
 /// to standard error. The exit code is the status of the run; where the words can't be had, it is 9 for an allocation
 /// failure, and else 2.
 ///
-/// All that it does beside is to take the words and to hand over the host's parts: `process` does the rest. Its steps are
-/// those of the run.
+/// All that it does beside is to take the words and to hand over the host's parts: `process` does the rest. Its steps
+/// are those of the run.
 pub fn start<R: Env + Files + Print + Eprint + AllocGlobal + Threads + Wait + Sync>(
     rt: &R,
 ) -> ExitCode

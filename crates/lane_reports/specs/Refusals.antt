@@ -62,9 +62,9 @@ pub record HasSpentAll (work : Work) (lanes slots : ℕ) (form : Form) (seat : S
   pub quota : seat.view.core.quota.adds ≡ 2 ^ 40
   pub spent : IsSpent seat.view.core
 
--- Why nothing was counted: there was no memory; or this seat of a domain for this work has used all of its 2^40 adds; or
--- in a domain for this work, which has fewer slots than makes, seat 0 found each slot taken before the lanes began, or a
--- lane did. That seat has made at least as many whole scans as it pushed items, and owns no node of the queue.
+-- Why nothing was counted: there was no memory; or this seat of a domain for this work has used all of its 2^40 adds;
+-- or in a domain for this work, which has fewer slots than makes, seat 0 found each slot taken before the lanes began,
+-- or a lane did. That seat has made at least as many whole scans as it pushed items, and owns no node of the queue.
 abbrev pub IsWhyNothing : (List ℕ → Type 0) → Work → ℕ → ℕ → Form → CountError → Type 0
 IsWhyNothing fits work lanes slots form refused.OutOfMemory = Unit {0}
 IsWhyNothing fits work lanes slots form (refused.Spent seat) =
