@@ -57,11 +57,12 @@ fn take(desk: &mut Desk, alloc: Global, line: &[u8], text: &mut String) -> Resul
 fn play(
     rt: &impl Abort,
     alloc: Global,
-    (slots, cells, weak_cells): (u32, u32, u32),
+    sizes: (u32, u32, u32),
     lines: &[u8],
 ) -> Result<(String, Desk), OutOfMemory>
     ensures { IfOk result (λ played. IsSettled played.1.plain) }
 {
+    let (slots, cells, weak_cells) = sizes;
     assert!(rt; 0 < slots && slots <= 100_000 && cells <= 2 && weak_cells <= 1);
     let mut desk = Desk::open(alloc, slots, cells, weak_cells)?;
     let mut text = String::new(alloc);
