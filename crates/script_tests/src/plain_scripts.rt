@@ -11,13 +11,18 @@ use std::alloc::Global;
 use std::process::Abort;
 use std::test::Fail;
 
-/// The command that a line spells, if it spells one.
-fn command_of(alloc: Global, line: &[u8]) -> Result<Option<Command>, OutOfMemory> {
-    match script_line(alloc, &words(alloc, line)?) {
-        Ok(ScriptLine::Command(command)) => Ok(Some(command)),
-        Ok(ScriptLine::Heap(_, _, _)) | Err(CommandRefused::Syntax) => Ok(None),
-        Err(CommandRefused::OutOfMemory) => Err(OutOfMemory),
+/// The command that a line is, if it is one.
+fn as_command(line: ScriptLine) -> Option<Command> {
+    match line {
+        ScriptLine::Command(command) => Some(command),
+        ScriptLine::Heap(_, _, _) => None,
     }
+}
+
+/// The command that the words of a line spell.
+fn command_of(alloc: Global, words: &[&[u8]]) -> Result<Command, CommandRefused> {
+    let line = script_line(alloc, words)?;
+    as_command(line).ok_or(CommandRefused::Syntax)
 }
 
 /// Appends what a command answered.
@@ -35,22 +40,34 @@ fn refuse(text: &mut String, reason: Reason) -> Result<(), OutOfMemory> {
     Ok(())
 }
 
-/// Does what the line says, and appends what it answers, or why it is refused. Whether it isn't refused.
+/// Does what the command says, and appends what it answers, or why it is refused. Whether it isn't refused.
+fn act(desk: &mut Desk, command: &Command, text: &mut String) -> Result<bool, OutOfMemory>
+    requires { IsSettled desk.old.plain }
+    ensures { IfOk result (λ goes_on. IsSettled desk.new.plain) }
+{
+    if let Some(reason) = desk.fault(command) {
+        refuse(text, reason)?;
+        return Ok(false);
+    }
+    let said = desk.run(command)?;
+    tell(text, &said)?;
+    Ok(true)
+}
+
+/// The same with the command that a line spells.
 fn take(desk: &mut Desk, alloc: Global, line: &[u8], text: &mut String) -> Result<bool, OutOfMemory>
     requires { IsSettled desk.old.plain }
     ensures { IfOk result (λ goes_on. IsSettled desk.new.plain) }
 {
-    let Some(command) = command_of(alloc, line)? else {
-        text.push_str("no command\n")?;
-        return Ok(false);
-    };
-    if let Some(reason) = desk.fault(&command) {
-        refuse(text, reason)?;
-        return Ok(false);
+    let words = words(alloc, line)?;
+    match command_of(alloc, &words) {
+        Ok(command) => act(desk, &command, text),
+        Err(CommandRefused::Syntax) => {
+            text.push_str("no command\n")?;
+            Ok(false)
+        }
+        Err(CommandRefused::OutOfMemory) => Err(OutOfMemory),
     }
-    let said = desk.run(&command)?;
-    tell(text, &said)?;
-    Ok(true)
 }
 
 /// Plays commands on a heap of so many slots, strong cells and weak cells. What they answer, and what is left.
@@ -68,7 +85,7 @@ fn play(
     let mut text = String::new(alloc);
     for line in Lines::new(lines) {
         if !take(&mut desk, alloc, line.bytes, &mut text)? {
-            break;
+            return Ok((text, desk));
         }
     }
     Ok((text, desk))
