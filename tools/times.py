@@ -24,7 +24,13 @@ KINDS = ("proof", "tests", "edits")
 
 
 def lines_of(folder):
-    return sum(len(path.read_text().splitlines()) for kind in ("*.rt", "*.antt") for path in folder.rglob(kind))
+    """The lines of code, definitions and proofs, without what rt has built there."""
+    return sum(
+        len(path.read_text().splitlines())
+        for kind in ("*.rt", "*.antt")
+        for path in folder.rglob(kind)
+        if "out" not in path.relative_to(TOP / "crates").parts
+    )
 
 
 def read(path):
