@@ -6,7 +6,8 @@
 
 A plant is a file crates/NAME/plants/*.edit of the form of a must-fail edit. Here it is one, in a copy of the
 repository, so that `rt must-fail` tries it and nothing of the checkout changes. Run it whenever a contract or a
-definition of the crate changes. The crates below are taken from what `rt check` kept, where the same text was checked.
+definition of the crate changes. The libraries of the crates below are taken along, where `rt check` has built them of the
+same text; else they are proved first.
 
 It prints what became of each plant, those last that only a proof refuses because it names what the plant took away: a
 contract refuses more than they show, so mend them. The exit status is 0 where each plant was refused.
@@ -35,11 +36,17 @@ def plants_of(words):
     return asked
 
 
+def left_out(folder, names):
+    """What of a folder isn't copied: edits and plants, and of what rt has built all but the libraries."""
+    kept = ("rlib",) if Path(folder).name == "out" else names
+    return {name for name in names if name in ("must-fail", "plants") or name not in kept}
+
+
 def copy_into(folder, asked):
-    """Copies the repository without what was built, the plants that are asked for in the place of must-fail edits."""
+    """Copies the repository with the libraries that were built, the plants that are asked for in the place of edits."""
     for name in ("crates.txt", "HANDLES"):
         shutil.copy(TOP / name, folder)
-    shutil.copytree(TOP / "crates", folder / "crates", ignore=shutil.ignore_patterns("out", "must-fail", "plants"))
+    shutil.copytree(TOP / "crates", folder / "crates", ignore=left_out)
     for crate, plants in asked.items():
         (folder / "crates" / crate / "must-fail").mkdir()
         for plant in plants:

@@ -4,7 +4,7 @@ use Rattle.cdrc_run.proofs.processing.process.Goals.{in-Ok, in-Err}
 
 pub returns-then-status-ne0-clause-ran : goal.returns-then-status-ne0-clause-ran
 returns-then-status-ne0-clause-ran g c = elim c.match-words.branch [
-  in-Ok w ↦
+  | in-Ok w ↦
       rw (w.in-Ok.is, ← w.deref.ensures.value, w.files-is, w.sink-is)
       (ends_with _ _ _ _ w.run.result w.run.ensures.usage
       (λ none. let refused = w.run.ensures.usage_exactly none in (refused.0, refused.2))
@@ -15,7 +15,7 @@ returns-then-status-ne0-clause-ran g c = elim c.match-words.branch [
 
 pub returns-else-status-ne0-clause-ran : goal.returns-else-status-ne0-clause-ran
 returns-else-status-ne0-clause-ran g c = elim c.match-words.branch [
-  in-Ok w ↦
+  | in-Ok w ↦
       rw (w.in-Ok.is, ← w.deref.ensures.value, w.files-is, w.sink-is)
       (ends_with _ _ _ _ w.run.result w.run.ensures.usage
       (λ none. let refused = w.run.ensures.usage_exactly none in (refused.0, refused.2))
