@@ -1,7 +1,8 @@
 //! A run for a process whose words, files, output and standard error are given.
 ghost use Rattle.std.specs.Prelude.{ℕ, ◌≡◌, ◌≢◌, IfErr, IfOk, OnErr, Option, Some, map, string_bytes};
 ghost use Rattle.cdrc_run.specs.Processes.{EndsRun, EndsUnasked};
-ghost use Rattle.cdrc_run.specs.Statuses.{IsStatus};
+ghost use Rattle.cdrc_run.specs.Jobs.{IsCommand};
+ghost use Rattle.cdrc_run.specs.Statuses.{IsStatus, line_for};
 
 use crate::explaining::{exit_status, explain};
 use crate::running::run;
@@ -13,12 +14,13 @@ use std::sync::Wait;
 use std::thread::Threads;
 use words_work::{Files, Gate, NodeKind, RecordKind, Sink};
 
-/// Where the line for a status goes. A contract sees for which status one was asked for last.
+/// Where the line for a status goes. A contract sees for which status one was handed over last.
 pub trait StatusLines {
     ghost told: { Self → Option ℕ };
 
     /// Writes the line for a status.
-    fn tell(&mut self, status: u8)
+    fn tell(&mut self, status: u8, line: &str)
+        requires { line.now ≡ line_for status }
         ensures { told self.new ≡ Some status };
 }
 
@@ -40,15 +42,15 @@ impl<P: Eprint> StatusLines for HostLines<'_, P> {
     ghost told = { λ lines. lines.told };
 
     /// Nobody is told where standard error can't be written.
-    fn tell(&mut self, status: u8) {
-        let _ = self.rt.eprintln(explain(status));
+    fn tell(&mut self, status: u8, line: &str) {
+        let _ = self.rt.eprintln(line);
         self.told = Some(status);
     }
 }
 
 /// Runs the program for a process that has these words, or none for this cause, and answers its exit status: that of
-/// the run; where the words can't be had, 9 for an allocation failure, and else 2. For a status other than 0 it asks
-/// for the line of that status. Its steps are those of the run.
+/// the run; where the words can't be had, 9 for an allocation failure, and else 2. For a status other than 0 it hands
+/// over the line of that status. Its steps are those of the run.
 pub fn process<R: Threads + Wait + Sync, F: Files, K: Sink, G: Gate + Sync, L: StatusLines>(
     rt: &R,
     alloc: Global,
@@ -78,7 +80,9 @@ pub fn process<R: Threads + Wait + Sync, F: Files, K: Sink, G: Gate + Sync, L: S
           faults_now = K.faults sink.new;
         }) result) }
     ensures unasked { IfErr words (λ kind. EndsUnasked kind result) }
-    ensures untouched { OnErr words (K.taken sink.new ≡ K.taken sink.old) }
+    ensures untouched { OnErr words ((files.new ≡ files.old) × (sink.new ≡ sink.old)) }
+    ensures unread { IfOk words (λ given. (IsCommand (map string_bytes given.items) → ⊥)
+        → files.new ≡ files.old) }
     ensures told { result ≢ 0 → L.told lines.new ≡ Some result }
     ensures untold { result ≡ 0 → lines.new ≡ lines.old }
 {
@@ -88,7 +92,7 @@ pub fn process<R: Threads + Wait + Sync, F: Files, K: Sink, G: Gate + Sync, L: S
     };
     let status = exit_status(outcome);
     if status != 0 {
-        lines.tell(status);
+        lines.tell(status, explain(status));
     }
     status
 }

@@ -23,3 +23,19 @@ returns-else-status-ne0-clause-ran g c = elim c.match-words.branch [
       (rw w.outcome-is at c.exit_status-status.ensures.ran))
   | in-Err w ↦ rw w.in-Err.is tt
 ]
+
+pub returns-then-status-ne0-clause-unread : goal.returns-then-status-ne0-clause-unread
+returns-then-status-ne0-clause-unread g c = elim c.match-words.branch [
+  | in-Ok w ↦
+      rw (w.in-Ok.is, ← w.deref.ensures.value, w.files-is)
+      (λ none. (w.run.ensures.usage_exactly none).3)
+  | in-Err w ↦ rw w.in-Err.is tt
+]
+
+pub returns-else-status-ne0-clause-unread : goal.returns-else-status-ne0-clause-unread
+returns-else-status-ne0-clause-unread g c = elim c.match-words.branch [
+  | in-Ok w ↦
+      rw (w.in-Ok.is, ← w.deref.ensures.value, w.files-is)
+      (λ none. (w.run.ensures.usage_exactly none).3)
+  | in-Err w ↦ rw w.in-Err.is tt
+]
