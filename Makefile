@@ -31,6 +31,7 @@ docs: ## checks the documents' links, names of proved functions, and printed out
 
 test: ## make docs, then rt ci: every proof, must-fail edit, program and test; then every case of the program
 	python3 tools/check_docs.py
+	tools/check_edits.py
 	rt ci
 	tools/run_cases.py $(PROGRAM)
 	tools/test_run_cases.py $(PROGRAM)
