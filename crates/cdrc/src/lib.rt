@@ -24,33 +24,30 @@ pub mod parts;
 pub mod queues;
 
 // A domain, and its seats.
-pub use acquire_retire::{
-    Domain, EventPlace, Kind, OpenError, Outcome, Payment, Quota, Seat, Shape, ShapeField, Work,
-    empty_image, open_domain, open_granted,
+pub use domain_audit::{
+    Domain, EventPlace, Kind, OpenError, OutOfMemory, Outcome, Payment, Quota, Seat, Shape,
+    ShapeField, Work, collect, empty_image, leave, open_domain, open_granted,
 };
-pub use out_of_memory::OutOfMemory;
-pub use retiring_stores::{collect, leave};
 
 // What objects hold, what is called before they are destroyed, and images of all of them.
-pub use deleter::Deleter;
-pub use plain_state::{Heap, PayloadKind, RecordKind, SlotId, SlotImage, record_of};
+pub use domain_audit::{Deleter, Heap, PayloadKind, RecordKind, SlotId, SlotImage, record_of};
 
 // Handles, and the calls that count and give up references.
-pub use control_word::{
-    UpgradeError, copy_strong, copy_weak, drop_strong, drop_weak, strong_count, upgrade,
-    weak_count, weaken,
+pub use domain_audit::{
+    LoadError, Place, Spent, Strong, UpgradeError, Weak, WeakPlace, copy_strong, copy_weak,
+    drop_strong, drop_weak, strong_count, upgrade, weak_count, weaken,
 };
-pub use counted_handles::{LoadError, Place, Spent, Strong, Weak, WeakPlace};
 
 // Slots: objects are made, read and destroyed.
-pub use slot_store::{MakeError, held_as, make, read, reap, settle};
+pub use domain_audit::{MakeError, held_as, make, read, reap, settle};
 
 // Strong places, and snapshots of what they hold.
-pub use atomic_shared::{Lost, load, store, try_load, try_replace};
-pub use snapshot_ptr::{Snapshot, counted, end, keep, snapshot, try_snapshot};
+pub use weak_intern::{
+    Lost, Snapshot, counted, end, keep, load, snapshot, store, try_load, try_replace, try_snapshot,
+};
 
 // Weak places, and weak snapshots.
-pub use atomic_weak::{
+pub use weak_intern::{
     LostWeak, WeakSnap, WeakSnapshot, end_weak, load_weak, store_weak, try_load_weak,
     try_replace_weak, try_weak_snapshot, weak_counted,
 };
@@ -59,5 +56,6 @@ pub use atomic_weak::{
 pub use domain_audit::{Audit, audit_domain};
 
 // Protocols: the laws of clients, and the deeds that tell of them.
-pub use plain_protocol::{AnyStep, Deed, NoLaw, Protocol, Still};
-pub use protocol_pairs::{InPart, Left, Pair, PairKind, Part, Right, Spares, Whole};
+pub use domain_audit::{
+    AnyStep, Deed, InPart, Left, NoLaw, Pair, PairKind, Part, Protocol, Right, Spares, Still, Whole,
+};

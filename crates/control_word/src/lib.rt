@@ -25,9 +25,9 @@ mod upgrading;
 mod weak_handles;
 
 pub use acquire_retire::{
-    AnyStep, Deed, Domain, EventPlace, Kind, NoLaw, OpenError, OutOfMemory, Outcome, Protocol,
-    Quota, Seat, Shape, ShapeField, Still, empty_image, has_bit, held_as, kind_of, open_domain,
-    open_granted,
+    AnyStep, Deed, Domain, EventPlace, Kind, NoLaw, OpenError, OutOfMemory, Outcome, Payment,
+    Protocol, Quota, Seat, Shape, ShapeField, Still, Work, empty_image, has_bit, held_as, kind_of,
+    open_domain, open_granted,
 };
 pub use counted_handles::{
     Heap, LoadError, PayloadKind, Place, RecordKind, SlotId, SlotImage, Spent, Strong, Weak,

@@ -24,5 +24,13 @@ mod laws;
 pub use auditing::{audit_domain, audit_domain_in};
 pub use laws::image_can_be_audited;
 pub use plain_audit::Audit;
-pub use protected_loads::{Domain, Seat, SlotId, Spent, drop_strong, empty_image, strong_count};
-pub use slot_store::{EventPlace, MakeError, Outcome, Strong, settle};
+pub use protected_loads::{
+    AnyStep, Deed, Domain, Heap, Kind, LoadError, NoLaw, OpenError, OutOfMemory, PayloadKind,
+    Payment, Place, Protocol, Quota, RecordKind, Seat, Shape, ShapeField, SlotId, SlotImage, Spent,
+    Still, UpgradeError, Weak, WeakPlace, Work, copy_strong, copy_weak, drop_strong, drop_weak,
+    empty_image, open_domain, open_granted, record_of, strong_count, upgrade, weak_count, weaken,
+};
+pub use slot_store::{
+    Deleter, EventPlace, InPart, Left, MakeError, Outcome, Pair, PairKind, Part, Right, Spares,
+    Strong, Whole, collect, held_as, leave, make, read, reap, settle,
+};

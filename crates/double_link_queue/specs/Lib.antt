@@ -14,6 +14,7 @@ pub use Rattle.linked_queue.specs.queue_law as queue_law
 pub use Rattle.linked_queue.specs.queue_protocol as queue_protocol
 pub use Rattle.weak_part_calls.specs.retiring_stores as retiring_stores
 pub use Rattle.weak_part_calls.specs.slot_store as slot_store
+pub use Rattle.weak_part_calls.specs as weak_part_calls
 -- Its own.
 pub mod Queues
 pub mod Leaving

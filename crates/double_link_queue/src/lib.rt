@@ -32,6 +32,7 @@ mod exchanging;
 mod helping;
 mod laying;
 mod looking_back;
+pub mod parts;
 mod popping;
 mod pushing;
 mod pushing_waits;

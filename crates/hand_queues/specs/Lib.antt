@@ -7,8 +7,10 @@ pub use Rattle.double_link_queue.specs as double_link_queue
 pub use Rattle.double_link_queue.specs.linked_queue as linked_queue
 pub use Rattle.double_link_queue.specs.part_calls as part_calls
 pub use Rattle.double_link_queue.specs.queue_law as queue_law
+pub use Rattle.double_link_queue.specs.queue_protocol as queue_protocol
 pub use Rattle.double_link_queue.specs.retiring_stores as retiring_stores
 pub use Rattle.double_link_queue.specs.slot_store as slot_store
+pub use Rattle.double_link_queue.specs.weak_part_calls as weak_part_calls
 -- Its own.
 pub mod Queues
 pub mod Pushes

@@ -23,10 +23,11 @@ mod double;
 mod hand_queue;
 mod laying;
 mod linked;
+pub mod parts;
 
 pub use any_queue::AnyQueue;
 pub use double_link_queue::{
-    Deleter, FindSet, Form, LearnItem, LearnTail, MakeError, NodeKind, PopError, PushError,
-    PushRefused, QueueLaw, Spent, Strong, collect, reap,
+    Deleter, DoubleQueue, FindSet, Form, HasQueue, LearnItem, LearnTail, LinkedQueue, MakeError,
+    NodeKind, PopError, PushError, PushRefused, QueueLaw, Spent, Strong, collect, reap,
 };
 pub use hand_queue::HandQueue;

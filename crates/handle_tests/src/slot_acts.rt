@@ -56,7 +56,7 @@ pub(crate) fn collect(domain: &Domain<Objects>, player: &mut Player) -> Said
         player.new.weaks.items }
     ensures notes { player.new.seat.view.core.notes ≡ player.old.seat.view.core.notes }
 {
-    retiring_stores::collect(domain, &mut player.seat);
+    slot_store::collect(domain, &mut player.seat);
     Said::Done
 }
 

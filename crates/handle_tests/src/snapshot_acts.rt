@@ -143,7 +143,7 @@ fn drop_under(domain: &Domain<Objects>, player: &mut Player) -> Said
     ensures notes { player.new.seat.view.core.notes ≡ player.old.seat.view.core.notes }
 {
     give_up(domain, player);
-    retiring_stores::collect(domain, &mut player.seat);
+    slot_store::collect(domain, &mut player.seat);
     match (
         domain.next_dying(&player.seat),
         domain.next_ripe(&player.seat),

@@ -6,7 +6,7 @@ use crate::player::Player;
 use crate::playing::{Line, run, run_deep};
 use crate::tests::CLEAR;
 use control_word::{Quota, Shape};
-use retiring_stores::leave;
+use slot_store::leave;
 use std::test::Fail;
 
 const CELL: Spot = Spot::Cell(0);

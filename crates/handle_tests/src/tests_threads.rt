@@ -11,7 +11,7 @@ use crate::playing::{play, run, run_deep};
 use crate::sums::{ZERO, agrees, references};
 use crate::tests::CLEAR;
 use control_word::{Domain, OutOfMemory, Quota, Seat, Shape};
-use retiring_stores::leave;
+use slot_store::leave;
 use std::alloc::{AllocError, Global};
 use std::sync::Wait;
 use std::test::Fail;

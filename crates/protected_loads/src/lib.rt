@@ -27,9 +27,10 @@ mod where_null;
 
 pub use acquiring::{Moved, acquire};
 pub use control_word::{
-    AnyStep, Deed, Domain, Kind, LoadError, NoLaw, OpenError, OutOfMemory, PayloadKind, Place,
-    Protocol, Quota, RecordKind, Seat, Shape, SlotId, Spent, Still, UpgradeError, Weak, WeakPlace,
-    copy_strong, copy_weak, drop_strong, drop_weak, empty_image, held_as, open_domain, record_of,
+    AnyStep, Deed, Domain, EventPlace, Heap, Kind, LoadError, NoLaw, OpenError, OutOfMemory,
+    Outcome, PayloadKind, Payment, Place, Protocol, Quota, RecordKind, Seat, Shape, ShapeField,
+    SlotId, SlotImage, Spent, Still, Strong, UpgradeError, Weak, WeakPlace, Work, copy_strong,
+    copy_weak, drop_strong, drop_weak, empty_image, held_as, open_domain, open_granted, record_of,
     strong_count, upgrade, weak_count, weaken,
 };
 pub use loading::{in_words, try_load};

@@ -19,7 +19,7 @@ mod making;
 mod texts;
 mod unless_ripe;
 
-pub use atomic_shared::try_load;
+pub use atomic_shared::{Lost, load, store, try_load, try_replace};
 pub use directory_calls::{
     AnswerHead, BindHead, Directory, DirectoryLaw, DrawTicket, ForgetEnded, HasDirectory,
     LookAtCell, RecordKind, SeeHead, UpgradeHead,

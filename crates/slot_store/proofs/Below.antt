@@ -14,3 +14,9 @@ pub use Rattle.claim_law.proofs.Below.core_law_ShownPlaces as core_law_ShownPlac
 pub use Rattle.claim_law.proofs.Below.core_law_Trails as core_law_Trails
 pub use Rattle.retiring_stores.proofs.Below.domain_rule_Others as domain_rule_Others
 pub use Rattle.retiring_stores.proofs.Below.domain_rule_StartShown as domain_rule_StartShown
+pub use Rattle.protocol_pairs.proofs.Held as protocol_pairs_Held
+pub use Rattle.protocol_pairs.proofs.Leaves as protocol_pairs_Leaves
+pub use Rattle.protocol_pairs.proofs.Notes as protocol_pairs_Notes
+pub use Rattle.protocol_pairs.proofs.Owning as protocol_pairs_Owning
+pub use Rattle.protocol_pairs.proofs.Values as protocol_pairs_Values
+pub use Rattle.protocol_pairs.proofs.WeaklyHeld as protocol_pairs_WeaklyHeld

@@ -27,8 +27,10 @@ mod settling;
 
 pub use deleter::Deleter;
 pub use making::{MakeError, make};
-pub use protocol_pairs::{InPart, Left, Pair, PairKind, Part, Right, Spares};
+pub use protocol_pairs::{InPart, Left, Pair, PairKind, Part, Right, Spares, Whole};
 pub use reading::read;
 pub use reaping::reap;
-pub use retiring_stores::{Domain, EventPlace, Outcome, Seat, SlotId, Strong, held_as};
+pub use retiring_stores::{
+    Domain, EventPlace, Outcome, Seat, SlotId, Strong, collect, held_as, leave,
+};
 pub use settling::settle;

@@ -30,3 +30,4 @@ mod reading;
 pub use deeds::ReadPart;
 pub use laws::{bytes_have_their_text, pairs_have_pieces};
 pub use reading::read_text;
+pub use snapshot_ptr::{Snapshot, counted, end, keep, snapshot, try_snapshot};

@@ -39,15 +39,20 @@ mod seeing;
 mod sought;
 mod walking;
 
-pub use atomic_weak::{copy_strong, drop_strong};
+pub use atomic_weak::{
+    LostWeak, WeakSnap, WeakSnapshot, copy_strong, drop_strong, end_weak, load_weak, store_weak,
+    try_load_weak, try_replace_weak, try_weak_snapshot, weak_counted,
+};
 pub use comparing::is_payload;
 pub use drawing::draw;
 pub use finding::find;
 pub use interning::intern;
 pub use raising::raise;
 pub use record_making::{
-    Directory, DirectoryLaw, ForgetEnded, MakeError, RecordKind, cell_on, hash_of, head_of,
-    part_at, try_load,
+    Directory, DirectoryLaw, ForgetEnded, HasDirectory, Lost, MakeError, RecordKind, cell_on,
+    hash_of, head_of, load, part_at, store, try_load, try_replace,
 };
 pub use seeing::{Sighted, let_go, see};
-pub use text_reading::{pairs_have_pieces, read_text};
+pub use text_reading::{
+    Snapshot, counted, end, keep, pairs_have_pieces, read_text, snapshot, try_snapshot,
+};
