@@ -1,6 +1,7 @@
 -- The steps of a collect: what each leaves, and how moves follow one another.
-use Rattle.std.proofs.Common.{◌≡◌, ℕ, Bool, true, false, List, [], ◌∷◌, ◌++◌, refl, ap, ◌∙◌, subst}
-use Rattle.std.specs.Prelude.{Option, ◌==◌, if◌then◌else◌}
+use Rattle.std.proofs.Common.{◌≡◌, ℕ, Bool, true, false, List, [], ◌∷◌, ◌++◌, refl, ap, sym, ◌∙◌, subst, append_assoc, append-nil}
+use Rattle.std.specs.Prelude.{Option, Some, None, ◌==◌, if◌then◌else◌}
+use Rattle.plain_state.specs.declared.act.EventPlace.{EventPlace}
 use Rattle.plain_state.specs.declared.slot.Kind.TheVariants.{Strong, Weak, Disposal}
 use Rattle.plain_state.specs.declared.slot.SlotId.{SlotId}
 use Rattle.plain_state.specs.Lists.{Entry}
@@ -12,9 +13,11 @@ use Rattle.core_promises.specs.core_events.declared.view.CoreView.{CoreView}
 use Rattle.core_promises.specs.core_events.declared.view.Move.{Move}
 use Rattle.core_promises.specs.core_events.declared.view.Phase.{Phase}
 use Rattle.core_promises.specs.core_events.declared.view.Phase.TheVariants as phase
-use Rattle.core_promises.specs.core_events.Steps.{IsIdle, changed, ended, is_last, paid}
+use Rattle.core_promises.specs.core_events.Steps.{IsIdle, answer, changed, ended, is_last, paid}
 use Rattle.core_promises.specs.core_events.Views.{slot_of}
 use Rattle.plain_state.specs.counter_word.Words.{has_help}
+use Rattle.core_promises.proofs.Below.core_law_Trails.{changed_trail}
+use Rattle.domain_rule.specs.Told.{cleared_after}
 use Rattle.acquire_retire.specs.Calls.{IsOf, IsSameView, Steps, same_view}
 use Rattle.acquire_retire.specs.Collecting.{Goes, Walks, move, rest_of}
 use Rattle.acquire_retire.specs.Domains.{DomainState}
@@ -75,6 +78,19 @@ changed_rest z (act.Destroy s) w v is = absurd is
 changed_rest z (act.Wcount s) w v is = absurd is
 changed_rest z (act.Leave j) w v is = absurd is
 
+-- none of them leaves a field null
+cleared_stays : (a : Act) (v : CoreView) (ps : List EventPlace) → IsGathering a
+    → cleared_after a v ps ≡ ps
+cleared_stays act.Scan v ps is = refl
+cleared_stays act.Pay v ps is = refl
+cleared_stays act.Finish v ps is = refl
+cleared_stays act.Take v ps is = refl
+cleared_stays act.Free v ps is = refl
+cleared_stays (act.Swap p None) v ps is = absurd is
+cleared_stays (act.Swap p (Some s)) v ps is = absurd is
+cleared_stays (act.Destroy s) v ps is = absurd is
+cleared_stays a v ps is = refl
+
 module _ {P V : Type 0} (fits : List ℕ → Type 0) (d : DomainState P) where
   walks_append : (xs ys : List Move) (a b c : SeatState V) → Walks fits d xs a b → Walks fits d ys b c
       → Walks fits d (xs ++ ys) a c
@@ -93,10 +109,24 @@ module _ {P V : Type 0} {fits : List ℕ → Type 0} (d : DomainState P) where
     walks = walks_append fits d xs ys a b c first.walks more.walks;
     rest = more.rest ∙ first.rest;
     client = more.client ∙ first.client;
+    beside = record {
+      cleared = more.beside.cleared ∙ first.beside.cleared;
+      opened = more.beside.opened ∙ first.beside.opened;
+      left_adds = more.beside.left_adds ∙ first.beside.left_adds;
+      left_makes = more.beside.left_makes ∙ first.beside.left_makes;
+    };
+    trail = more.trail
+        ∙ (ap (λ (ms : List Move). ms ++ ys) first.trail ∙ append_assoc a.view.core.trail xs ys);
   }
 
   pub goes_nowhere : (a : SeatState V) → Goes fits d [] a a
-  goes_nowhere a = record { walks = refl; rest = refl; client = refl }
+  goes_nowhere a = record {
+    walks = refl;
+    rest = refl;
+    client = refl;
+    beside = record { cleared = refl; opened = refl; left_adds = refl; left_makes = refl };
+    trail = sym (append-nil a.view.core.trail);
+  }
 
   -- a step of a collect, with its outcome by another name
   pub goes_by : (a : Act) (o : Outcome) (old new : SeatState V) → IsGathering a → (x : Outcome)
@@ -105,6 +135,18 @@ module _ {P V : Type 0} {fits : List ℕ → Type 0} (d : DomainState P) where
     walks = (new, subst (λ (x : Outcome). Steps fits d same_view IsSameView a old new x) same step, refl);
     rest = ap rest_of step.told.core ∙ changed_rest d.shape a step.word old.view.core is;
     client = step.told.client;
+    beside = record {
+      cleared = step.told.cleared ∙ cleared_stays a old.view.core old.view.cleared is;
+      opened = step.told.opened;
+      left_adds = step.told.left_adds;
+      left_makes = step.told.left_makes;
+    };
+    trail = ap (λ (u : CoreView). u.trail) step.told.core
+        ∙ (ap (λ (ms : List Move). ms
+        ++ record { act = a; outcome = answer d.shape a step.word old.view.core } ∷ [])
+        (changed_trail d.shape a step.word old.view.core).trail
+        ∙ ap (λ (o : Outcome). old.view.core.trail ++ move a o ∷ [])
+        (sym step.answers ∙ same));
   }
 
   -- a seat stays a seat of the domain

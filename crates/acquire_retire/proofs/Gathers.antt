@@ -1,12 +1,30 @@
 -- A whole scan, and then a payment for each entry that went.
-use Rattle.std.proofs.Common.{◌≡◌, ℕ, List, ◌++◌, length, ap, sym, subst, arith}
+use Rattle.std.proofs.Common.{◌≡◌, ℕ, ◌*◌, ◌≤◌, List, [], ◌∷◌, ◌++◌, length, length-append, ap, sym, subst, arith}
 use Rattle.std.specs.Prelude.{flat_map}
 use Rattle.std.proofs.lemmas.List.{nil_from_length}
 use Rattle.core_promises.specs.core_events.Words.{announcements}
+use Rattle.acquire_retire.specs.declared.payment.Payment.{Payment}
+use Rattle.acquire_retire.specs.declared.payment.Payment.TheVariants as payment
 use Rattle.acquire_retire.specs.Collecting.{Collects, Goes, PaysFor, Splits, paid_by, scanned_by}
 use Rattle.acquire_retire.specs.Domains.{DomainState}
 use Rattle.acquire_retire.specs.Seats.{SeatState}
 use Rattle.acquire_retire.proofs.Collects.{goes_append}
+
+-- a payment is at most three moves
+few_moves : (ps : List Payment) → length (flat_map paid_by ps) ≤ 3 * length ps
+few_moves [] = omega arith
+few_moves (p ∷ ps) =
+    let l = length-append (paid_by p) (flat_map paid_by ps) in
+    let rest = few_moves ps in
+    let own = one p in omega arith
+  where
+    one : (q : Payment) → length (paid_by q) ≤ 3
+    one payment.Left = omega arith
+    one payment.Ended = omega arith
+    one payment.Lost = omega arith
+    one payment.Helped = omega arith
+    one payment.NoHelp = omega arith
+    one payment.Freed = omega arith
 
 pub collects_by : {P V : Type 0} {fits : List ℕ → Type 0} (d : DomainState P) (a b c : SeatState V) (go ended : ℕ)
     → Splits fits d a b go → PaysFor fits d b c go ended
@@ -39,4 +57,5 @@ collects_by {fits = fits} d a b c go ended split paid =
       owes_nothing = nil_from_length c.view.core.owed (omega arith);
       retired = omega arith;
       few = let most = split.few in omega arith;
+      moves = let most = few_moves payments in omega arith;
     }

@@ -5,20 +5,26 @@ use Rattle.atomic_table.specs.declared.shared.Seat.{Seat as TableSeat}
 use Rattle.plain_state.specs.declared.slot.SlotId.{SlotId}
 use Rattle.domain_rule.specs.plain_protocol.Owns.{HasSlot, Object, has_slot}
 use Rattle.core_promises.specs.core_events.declared.view.CoreView.{CoreView}
+use Rattle.core_promises.specs.core_events.declared.act.Act.TheVariants as act
+use Rattle.core_promises.specs.core_events.declared.outcome.Outcome.TheVariants as outcome
+use Rattle.core_promises.specs.core_events.Runs.{view_at}
 use Rattle.core_promises.specs.core_events.Shows.{show_seat}
+use Rattle.core_promises.specs.Trails.{HasEvent}
 use Rattle.core_promises.specs.core_events.Steps.{CanLeave}
 use Rattle.domain_rule.specs.declared.view.Known.{Known}
 use Rattle.core_promises.specs.core_law.Sound.{Sound}
 use Rattle.core_promises.proofs.Below.core_law_Always.{history_sound}
+use Rattle.core_promises.proofs.Below.core_law_Events.{event_shows}
+use Rattle.core_promises.proofs.LastMove.{last_move}
 use Rattle.domain_rule.specs.declared.view.SeatView.{SeatView}
 use Rattle.domain_rule.specs.Opening.{joined_view, merged_object, merged_objects}
 use Rattle.domain_rule.specs.Reading.{FoundIn, HasRead}
 use Rattle.domain_rule.specs.Views.{known_of, no_object, object_in}
-use Rattle.domain_rule.proofs.Leaves.{alike, merged_at, other_had, root_has}
+use Rattle.domain_rule.proofs.Leaves.{alike, alike_whole, known_once, merged_at, other_had, root_has}
 use Rattle.domain_rule.proofs.Others.{has_there}
 use Rattle.domain_rule.proofs.Owns.{shown_payload}
 use Rattle.acquire_retire.specs.Domains.{DomainState}
-use Rattle.acquire_retire.specs.Leavings.{HasJoined, KnowsAlike, MayJoin}
+use Rattle.acquire_retire.specs.Leavings.{HasJoined, HasLeft, KnowsAlike, KnowsSame, MayJoin}
 
 module _ {P V : Type 0} (fits : List ℕ → Type 0) (d : DomainState P) (joined : V → V → V)
     (root v new : SeatView V) (word : ℕ) (found : FoundIn fits d.shape d.terms new 0 word)
@@ -78,6 +84,62 @@ module _ {P V : Type 0} (fits : List ℕ → Type 0) (d : DomainState P) (joined
           ∙ alike root v d.shape shape s (at s now) mine others (words s mine)
       go false none = life s now ∙ rw none refl
 
+  root_same : KnowsSame root new
+  root_same s mine = ap object (told s (now_has s mine)) ∙ go (has_slot (show_seat v.core) s) refl
+    where
+      object : Known → Object
+      object o = record { life = o.life; payload = o.payload }
+
+      go : (b : Bool) → has_slot (show_seat v.core) s ≡ b
+          → merged_object root v s ≡ object_in root s
+      go true is =
+          rw mine (rw is (known_once (object_in root s) (object_in v s)
+          (alike_whole root v d.shape shape s (at s (now_has s mine)) mine is (words s mine))))
+      go false is = rw mine (rw is refl)
+
+  other_same : CanLeave v.core → KnowsSame v new
+  other_same can s others = go (has_slot (show_seat root.core) s) refl
+    where
+      now : HasSlot (show_seat new.core) s
+      now = subst (λ (u : SeatView V). HasSlot (show_seat u.core) s) (sym view)
+          (other_had root.core v.core can s others)
+
+      object : Known → Object
+      object o = record { life = o.life; payload = o.payload }
+
+      go : (b : Bool) → has_slot (show_seat root.core) s ≡ b → object_in new s ≡ object_in v s
+      go true mine =
+          root_same s mine
+          ∙ alike_whole root v d.shape shape s (at s now) mine others (words s mine)
+      go false none = ap object (told s now) ∙ rw none refl
+
+  -- the leave is the last move of seat 0's trail, and so an event
+  left_now : root.core.seat ≡ 0 → CanLeave root.core
+      → HasLeft d.shape d.terms found.events v.core.seat
+  left_now first can = record {
+    event = event;
+    shows = event_shows d.shape event.core 0 (act.Leave v.core.seat) before event.enabled;
+  }
+    where
+      number : new.core.seat ≡ 0
+      number = ap (λ (u : SeatView V). u.core.seat) view ∙ first
+
+      own : view_at found.core 0 ≡ (joined_view joined root v).core
+      own = ap (view_at found.core) (sym number)
+          ∙ (sym found.says.core ∙ ap (λ (u : SeatView V). u.core) view)
+
+      event : HasEvent d.shape d.terms found.events 0 (act.Leave v.core.seat)
+      event =
+          let seats = found.shape.0 in
+          last_move d.shape d.terms found.events found.core 0 root.core.trail
+          (record { act = act.Leave v.core.seat; outcome = outcome.Plain }) found.shape found.terms
+          found.history (omega arith) (ap (λ (u : CoreView). u.left) own ∙ can.0.1)
+          (ap (λ (u : CoreView). u.trail) own)
+
+      before : Sound d.shape event.core
+      before = history_sound d.shape d.terms event.before event.core found.shape found.terms
+          event.history
+
 pub has_joined : {P V : Type 0} (fits : List ℕ → Type 0) (d : DomainState P) (joined : V → V → V)
     (root v between new : TableSeat (Unit {0}) (SeatView V)) (word : ℕ) → MayJoin d root v
     → between.table_id ≡ root.table_id
@@ -103,4 +165,11 @@ has_joined {V = V} fits d joined root v between new word may table me stays read
         other_alike fits d joined root.me.0 v.me.0 new.me.0 word read.found view may.shape inside
             may.may.1,
       );
+      same = (
+        root_same fits d joined root.me.0 v.me.0 new.me.0 word read.found view may.shape inside,
+        other_same fits d joined root.me.0 v.me.0 new.me.0 word read.found view may.shape inside
+            may.may.1,
+      );
+      left = left_now fits d joined root.me.0 v.me.0 new.me.0 word read.found view may.shape inside
+          may.first may.may.0;
     }

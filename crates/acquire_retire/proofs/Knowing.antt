@@ -93,7 +93,7 @@ module _ {V : Type 0} (fits : List ℕ → Type 0) (z : Shape) (ts : Terms) (v :
         let views = sound.views in
         let trails = ap (λ (u : CoreView). length u.left_seats) root_is in omega arith
 
-module _ {P V : Type 0} (law : P → Plain → List V → Type 0) (first : P → ℕ → V)
+module _ {P V : Type 0} (law : P → Plain → List V → Type 0) (first : P → ℕ → V) (gone : V)
     (fits : List ℕ → Type 0) (d : DomainState P) (site : Option (DomainState P))
     (is : site ≡ Some d) (seat : TableSeat (Unit {0}) (SeatView V)) (word : ℕ) where
   -- a load tells what it found for each domain that it is in, which is one
@@ -112,14 +112,14 @@ module _ {P V : Type 0} (law : P → Plain → List V → Type 0) (first : P →
   pub read_requires : seat.table_id ≡ d.table → seat.me.0.gone ≡ false → word < word_count d.shape
       → (e : DomainState P) → e ≡ d → (kept : StoredDomain) → IsDomain e.table e.shape e.terms kept
       → (seat.table_id ≡ e.table) × (word < e.table.words)
-      × Allows (Kept (law e.protocol) (first e.protocol) fits e.shape e.terms) e.table.slots
+      × Allows (Kept (law e.protocol) (first e.protocol) gone fits e.shape e.terms) e.table.slots
       seat.id seat.me word (λ w. w) Tells
   read_requires table here inside e same kept in_domain =
       let count = in_domain.words ∙ ap (λ (x : DomainState P). word_count x.shape) same in
-      let T : DomainState P → Type 0 = λ x. Allows (Kept (law x.protocol) (first x.protocol) fits
+      let T : DomainState P → Type 0 = λ x. Allows (Kept (law x.protocol) (first x.protocol) gone fits
       x.shape x.terms) e.table.slots seat.id seat.me word (λ w. w)
       (λ w new. HasRead fits d.shape d.terms word w seat.me.0 new.0 × (new.1 ≡ seat.me.1)) in
-      let r = subst T (sym same) (reads (law d.protocol) (first d.protocol) fits d.shape d.terms
+      let r = subst T (sym same) (reads (law d.protocol) (first d.protocol) gone fits d.shape d.terms
       e.table.slots seat.id word seat.me here) in (
         table ∙ sym (ap (λ (x : DomainState P). x.table) same),
         omega arith,

@@ -27,7 +27,7 @@ use Rattle.acquire_retire.proofs.Granted.{grants_few}
 use Rattle.acquire_retire.proofs.Rooms.{rooms_least}
 use Rattle.acquire_retire.specs.Calls.{IsOf}
 use Rattle.acquire_retire.specs.Domains.{DomainState, IsDomain, StoredDomain}
-use Rattle.acquire_retire.specs.Leavings.{HasJoined, MayJoin, joined_in}
+use Rattle.acquire_retire.specs.Leavings.{HasJoined, MayJoin, TookOver, joined_in}
 use Rattle.acquire_retire.specs.Seats.{HasRooms, IsSeat, IsSeated, SeatState, Stored, stored}
 use Rattle.acquire_retire.proofs.Calls.{value_of}
 use Rattle.acquire_retire.proofs.Knowing.{found_dying, found_entries, found_law, found_left, found_once, found_ripe, found_room}
@@ -41,13 +41,13 @@ module _ {P V : Type 0} (law : P → Plain → List V → Type 0) (first : P →
   pub join_requires : (e : DomainState P) → e ≡ d → (kept : StoredDomain)
       → IsDomain e.table e.shape e.terms kept
       → (root.table_id ≡ e.table) × (v.table_id ≡ e.table) × (v.me.1 ≡ []) × (0 < e.table.words)
-      × Joins (Kept (law e.protocol) (first e.protocol) fits e.shape e.terms) root.id root.me.0
+      × Joins (Kept (law e.protocol) (first e.protocol) gone fits e.shape e.terms) root.id root.me.0
       v.id v.me.0 (joined_in joined site root.me.0 v.me.0) (gone_view gone)
   join_requires e same kept in_domain =
       let count = in_domain.words in
       let table = sym (ap (λ (x : DomainState P). x.table) same) in
       let T : DomainState P × Option (DomainState P) → Type 0 = λ x.
-      Joins (Kept (law x.0.protocol) (first x.0.protocol) fits x.0.shape x.0.terms) root.id
+      Joins (Kept (law x.0.protocol) (first x.0.protocol) gone fits x.0.shape x.0.terms) root.id
       root.me.0 v.id v.me.0 (joined_in joined x.1 root.me.0 v.me.0) (gone_view gone) in (
         may.tables.0 ∙ table,
         may.tables.1 ∙ table,
@@ -84,6 +84,26 @@ may_join {V = V} d root v r w root_is is root_seated seated of first may =
       first = t.1;
       may = t.2;
     }
+
+-- what clauses see of the seats then
+pub took_over : {P V : Type 0} (d : DomainState P) (fits : List ℕ → Type 0) (joined : V → V → V)
+    (root v new : TableSeat (Unit {0}) (SeatView V)) (r w : SeatState V) → value_of root ≡ r
+    → value_of v ≡ w → HasJoined d fits joined root v new
+    → TookOver d fits joined r w (value_of new)
+took_over {V = V} d fits joined root v new r w is is' join =
+    subst
+    (λ (x : SeatState V × SeatState V). TookOver d fits joined x.0 x.1 (value_of new))
+    (λ i. (is i, is' i))
+    (record {
+      table = join.table;
+      view = join.view;
+      knows = join.knows;
+      word = join.word;
+      found = join.found;
+      alike = join.alike;
+      same = join.same;
+      left = join.left;
+    })
 
 module _ {P V : Type 0} (d : DomainState P) (fits : List ℕ → Type 0) (joined : V → V → V)
     (root v new : TableSeat (Unit {0}) (SeatView V)) (may : MayJoin d root v)

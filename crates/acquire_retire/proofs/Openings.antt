@@ -50,14 +50,14 @@ begun_domain z ts kept table key words grants first shape terms same same_terms 
     }
 
 -- and the rule holds of it
-pub begun_kept : {V : Type 0} (law : Plain → List V → Type 0) (first : ℕ → V)
+pub begun_kept : {V : Type 0} (law : Plain → List V → Type 0) (first : ℕ → V) (gone : V)
     (fits : List ℕ → Type 0) (z : Shape) (ts kept : Terms) (words : List ℕ) → IsShape z
     → AreTerms z ts → kept ≡ ts → words ≡ first_words z → Starts law first
-    → Kept law first fits z kept (opening words [] (first_of first z kept))
-begun_kept law first fits z ts kept words shape terms same are starts =
+    → Kept law first gone fits z kept (opening words [] (first_of first z kept))
+begun_kept law first gone fits z ts kept words shape terms same are starts =
     subst
-    (λ (t : Terms × List ℕ). Kept law first fits z t.0 (opening t.1 [] (first_of first z t.0)))
-    (λ i. (sym same i, sym are i)) (opens law first fits z ts shape terms starts)
+    (λ (t : Terms × List ℕ). Kept law first gone fits z t.0 (opening t.1 [] (first_of first z t.0)))
+    (λ i. (sym same i, sym are i)) (opens law first gone fits z ts shape terms starts)
 
 -- a domain of one seat begins with one that knows the whole core
 knows_one : (n : ℕ) (all : Whole) → n ≡ 1 → IsSome (if n == 1 then Some all else None)
@@ -119,7 +119,7 @@ module _ {P V : Type 0} where
       ∙ (sym (each_push 1 n (begun_seat first d))
       ∙ ap (λ (j : ℕ). each_from 1 j (begun_seat first d)) (let e : suc n ≡ k = omega arith in e)))
 
-module _ {P V : Type 0} (law : P → Plain → List V → Type 0) (first : P → ℕ → V)
+module _ {P V : Type 0} (law : P → Plain → List V → Type 0) (first : P → ℕ → V) (gone : V)
     (fits : List ℕ → Type 0) (d : DomainState P) (site : Option (DomainState P))
     (is : site ≡ Some d) (root : TableSeat (Unit {0}) (SeatView V))
     (begun : IsFirst (first d.protocol) d root.me.0.opened root) where
@@ -127,17 +127,17 @@ module _ {P V : Type 0} (law : P → Plain → List V → Type 0) (first : P →
   pub another_requires : root.me.0.opened < d.shape.seats → (e : DomainState P) → e ≡ d
       → (kept : StoredDomain) → IsDomain e.table e.shape e.terms kept
       → (root.table_id ≡ e.table) × (0 < e.table.words)
-      × Splits (Kept (law e.protocol) (first e.protocol) fits e.shape e.terms) root.id root.me.0
+      × Splits (Kept (law e.protocol) (first e.protocol) gone fits e.shape e.terms) root.id root.me.0
       (opened_more root.me.0) (newcomer first site root.me.0)
   another_requires more e same kept in_domain =
       let T : DomainState P × Option (DomainState P) → Type 0 = λ x.
-      Splits (Kept (law x.0.protocol) (first x.0.protocol) fits x.0.shape x.0.terms) root.id
+      Splits (Kept (law x.0.protocol) (first x.0.protocol) gone fits x.0.shape x.0.terms) root.id
       root.me.0 (opened_more root.me.0) (newcomer first x.1 root.me.0) in
       let count = in_domain.words in (
         begun.0 ∙ sym (ap (λ (x : DomainState P). x.table) same),
         omega arith,
         subst T (λ i. (sym same i, sym is i))
-            (splits (law d.protocol) (first d.protocol) fits d.shape d.terms root.id root.me.0
+            (splits (law d.protocol) (first d.protocol) gone fits d.shape d.terms root.id root.me.0
             (ap (λ (m : Me (Unit {0}) (SeatView V)). m.0.gone) begun.1)
             (ap (λ (m : Me (Unit {0}) (SeatView V)). m.0.core.seat) begun.1) more),
       )

@@ -134,7 +134,7 @@ module _ {P D V : Type 0} (law : P → Plain → List V → Type 0) (first : P �
         can.shape can.may
         (in_domain.words ∙ ap (λ (x : DomainState P). word_count x.shape) same) at
 
-    allowed : Allows (Kept (law e.protocol) (first e.protocol) fits e.shape e.terms) e.table.slots
+    allowed : Allows (Kept (law e.protocol) (first e.protocol) gone fits e.shape e.terms) e.table.slots
         seat.id seat.me word f
         (λ w new. Finds fits d (next_view deed d.protocol) (allows deed d.protocol) a seat.me w new)
     allowed =
@@ -143,14 +143,14 @@ module _ {P D V : Type 0} (law : P → Plain → List V → Type 0) (first : P �
         d.terms a e.table.slots seat.id seat.me can.seated.here can.seated.knows can.own can.may
         can.starts can.is_ready in
         let T : DomainState P × (ℕ × (ℕ → ℕ)) → Type 0 = λ x.
-        Allows (Kept (law x.0.protocol) (first x.0.protocol) fits x.0.shape x.0.terms)
+        Allows (Kept (law x.0.protocol) (first x.0.protocol) gone fits x.0.shape x.0.terms)
         e.table.slots seat.id seat.me x.1.0 x.1.1
         (λ w new. Finds fits d (next_view deed d.protocol) (allows deed d.protocol) a seat.me w new) in
         subst T (λ i. (sym same i, (sym at i, λ w. kind w i))) r
 
     -- what the table requires of an atomic step, where the step tells the word that it finds
     pub step_requires : (seat.table_id ≡ e.table) × (word < e.table.words)
-        × Allows (Kept (law e.protocol) (first e.protocol) fits e.shape e.terms) e.table.slots
+        × Allows (Kept (law e.protocol) (first e.protocol) gone fits e.shape e.terms) e.table.slots
         seat.id seat.me word f Tells
     step_requires = (
       table_is,
@@ -161,7 +161,7 @@ module _ {P D V : Type 0} (law : P → Plain → List V → Type 0) (first : P �
 
     -- and where it doesn't
     pub store_requires : (seat.table_id ≡ e.table) × (word < e.table.words)
-        × Allows (Kept (law e.protocol) (first e.protocol) fits e.shape e.terms) e.table.slots
+        × Allows (Kept (law e.protocol) (first e.protocol) gone fits e.shape e.terms) e.table.slots
         seat.id seat.me word f (λ _ new. TellsSome new)
     store_requires = (
       table_is,

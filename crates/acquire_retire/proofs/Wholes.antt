@@ -2,7 +2,7 @@
 use Rattle.std.proofs.Common.{◌≡◌, ℕ, false, List, [], ◌∷◌, length, Result, Ok, Err, ap, sym, ◌∙◌, subst, arith}
 use Rattle.std.specs.Prelude.{Some, IsSome, IfOk}
 use Rattle.std.specs.Option.{option_map}
-use mathlib.Core.Option.{some, some-injective, some-ne-none}
+use mathlib.Core.Option.{some}
 use lib.ListN.{get_elem?}
 use Rattle.atomic_table.specs.Table.{Seen, State}
 use Rattle.atomic_table.specs.declared.shared.Seat.{Seat as TableSeat}
@@ -17,22 +17,19 @@ use Rattle.core_promises.specs.core_events.Runs.{Core}
 use Rattle.core_promises.specs.core_events.Shows.{shows}
 use Rattle.core_promises.specs.core_law.Sound.{Sound}
 use Rattle.core_promises.proofs.Below.core_law_Lawful.{shows_lawful}
+use Rattle.core_promises.specs.Finds.{DeferredFit}
+use Rattle.core_promises.proofs.Deferred.{fits as fits_within}
 use Rattle.domain_rule.specs.declared.view.SeatView.{SeatView}
 use Rattle.domain_rule.specs.declared.view.Whole.{Whole}
-use Rattle.domain_rule.specs.Rule.{Kept, clients}
+use Rattle.domain_rule.specs.Rule.{Kept}
 use Rattle.domain_rule.specs.Views.{IsAlone, core_in}
-use Rattle.domain_rule.proofs.Padding.{client_found, clients_length}
+use Rattle.domain_rule.proofs.Gone.{alone_clients}
 use Rattle.domain_rule.proofs.Reading.{known_is}
-use Rattle.domain_rule.proofs.Telling.{in_seats, is_root, kept_sound, true_of}
+use Rattle.domain_rule.proofs.Telling.{in_seats, kept_sound, true_of}
 use Rattle.acquire_retire.specs.Wholes.{IsLast, IsWholeImage, KnowsCore, KnowsState, core_known, known_core, known_state}
 use Rattle.acquire_retire.specs.Domains.{DomainState}
 use Rattle.acquire_retire.specs.Seats.{IsSeated, SeatState}
 use Rattle.acquire_retire.proofs.Calls.{value_of}
-
-split_first : {A : Type 0} (xs : List A) (a : A) → get_elem? xs 0 ≡ some a
-    → (rest : List A) × (xs ≡ a ∷ rest)
-split_first [] a e = absurd (some-ne-none a (sym e))
-split_first (x ∷ xs) a e = (xs, ap (λ y. y ∷ xs) (some-injective x a e))
 
 -- what a seat knows of a whole state that is sound
 pub knows_state : {V : Type 0} (fits : List ℕ → Type 0) (z : Shape) (c : Core) (v : SeatView V)
@@ -45,51 +42,47 @@ knows_state fits z c v all shape so fit knows same = record {
   fit = fit;
 }
 
-module _ {V : Type 0} (law : Plain → List V → Type 0) (first : ℕ → V) (fits : List ℕ → Type 0)
-    (z : Shape) (ts : Terms) (s : State (Unit {0}) (SeatView V))
-    (k : Kept law first fits z ts s) (id : ℕ) (v : SeatView V) (at : get_elem? s.views id ≡ some v)
+module _ {V : Type 0} (law : Plain → List V → Type 0) (first : ℕ → V) (gone : V)
+    (fits : List ℕ → Type 0) (z : Shape) (ts : Terms) (s : State (Unit {0}) (SeatView V))
+    (k : Kept law first gone fits z ts s) (id : ℕ) (v : SeatView V) (at : get_elem? s.views id ≡ some v)
     (here : v.gone ≡ false) (root : v.core.seat ≡ 0) where
-  abbrev all_clients : List V
-  all_clients = clients first z.seats s.views
-
-  first_client : (rest : List V) × (all_clients ≡ v.client ∷ rest)
-  first_client =
-      let first_seat = is_root z ts s k id v at here root in
-      split_first all_clients v.client
-      (client_found first z.seats s.views 0 v
-      (subst (λ (n : ℕ). get_elem? s.views n ≡ some v) first_seat at))
-
-  known_last : (all : Whole) → v.whole ≡ Some all → IsLast fits law z.seats v
+  known_last : (all : Whole) → v.whole ≡ Some all → IsLast fits law gone z.seats v
   known_last all knows =
       let says = true_of z ts s k id v at here in
       let so = kept_sound z ts s k in
       let shape = ap (λ (u : CoreView). u.shape) says.core
       ∙ (so.seats id (in_seats z ts s k id v at)).same_shape in
-      let count = clients_length first z.seats s.views k.few.1 in
-      let length_is = ap length first_client.1 in record {
+      let so_all = says.whole all knows in record {
         state = shows z k.core;
-        knows = knows_state fits z k.core v all shape so k.fit knows (says.whole all knows).0;
-        others = first_client.0;
-        count = omega arith;
-        client = subst (law (shows z k.core)) first_client.1 k.client;
+        knows = knows_state fits z k.core v all shape so k.fit knows so_all.0;
+        client = subst (law (shows z k.core))
+            (alone_clients law first gone fits z ts s k id v at here root so_all.2) k.client;
       }
 
-  last : IsSome v.whole → IsLast fits law z.seats v
-  last = known_is v.whole (IsLast fits law z.seats v) known_last
+  last : IsSome v.whole → IsLast fits law gone z.seats v
+  last = known_is v.whole (IsLast fits law gone z.seats v) known_last
 
 -- what a table that is closed with seat 0 tells of its last state
-pub closed_last : {P V : Type 0} (law : P → Plain → List V → Type 0) (first : P → ℕ → V)
+pub closed_last : {P V : Type 0} (law : P → Plain → List V → Type 0) (first : P → ℕ → V) (gone : V)
     (fits : List ℕ → Type 0) (d e : DomainState P) → e ≡ d
     → (seat : TableSeat (Unit {0}) (SeatView V)) (r : SeatState V) → value_of seat ≡ r
     → IsSeated seat.me → IsAlone r.view → (s : State (Unit {0}) (SeatView V))
-    → Seen (Kept (law e.protocol) (first e.protocol) fits e.shape e.terms) seat.id seat.me.0 s
-    → IsLast fits (law d.protocol) d.shape.seats r.view
-closed_last {P = P} {V = V} law first fits d e same seat r is seated alone s seen =
+    → Seen (Kept (law e.protocol) (first e.protocol) gone fits e.shape e.terms) seat.id seat.me.0 s
+    → IsLast fits (law d.protocol) gone d.shape.seats r.view
+closed_last {P = P} {V = V} law first gone fits d e same seat r is seated alone s seen =
     let T : DomainState P × SeatState V → Type 0 = λ x.
-    IsAlone x.1.view → IsLast fits (law x.0.protocol) x.0.shape.seats x.1.view in
+    IsAlone x.1.view → IsLast fits (law x.0.protocol) gone x.0.shape.seats x.1.view in
     subst T (λ i. (same i, is i))
-    (λ here. last (law e.protocol) (first e.protocol) fits e.shape e.terms s seen.0 seat.id
+    (λ here. last (law e.protocol) (first e.protocol) gone fits e.shape e.terms s seen.0 seat.id
     seat.me.0 seen.1 seated.here here.0 (seated.knows here)) alone
+
+-- what is deferred in that state is bounded
+pub whole_deferred : {P V : Type 0} (d : DomainState P) (fits : List ℕ → Type 0)
+    (seat : TableSeat (Unit {0}) (SeatView V)) (r : SeatState V) → value_of seat ≡ r
+    → KnowsCore d fits seat → DeferredFit d.shape (known_core r.view)
+whole_deferred {V = V} d fits seat r is k =
+    subst (λ (x : SeatState V). DeferredFit d.shape (known_core x.view)) is
+    (fits_within d.shape (known_core seat.me.0) k.sound)
 
 -- an image of the state that a seat knows is one of what clauses see of the seat
 pub whole_image : {P V : Type 0} (d : DomainState P) (fits : List ℕ → Type 0)

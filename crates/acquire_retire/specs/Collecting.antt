@@ -1,5 +1,5 @@
 -- What a collect does, move by move, and what it leaves.
-use Rattle.std.specs.Prelude.{ℕ, ◌≡◌, ◌+◌, ◌≤◌, Bool, true, false, List, [], ◌∷◌, ◌++◌, length, map, flat_map, count_by}
+use Rattle.std.specs.Prelude.{ℕ, ◌≡◌, ◌+◌, ◌*◌, ◌≤◌, Bool, true, false, List, [], ◌∷◌, ◌++◌, length, map, flat_map, count_by}
 use Rattle.plain_state.specs.declared.act.PlainAct.{PlainAct}
 use Rattle.plain_state.specs.State.{Plain}
 use Rattle.domain_rule.specs.plain_protocol.Owns.{OwnPart}
@@ -12,6 +12,7 @@ use Rattle.core_promises.specs.core_events.declared.view.Move.{Move}
 use Rattle.core_promises.specs.core_events.declared.view.Phase.TheVariants as phase
 use Rattle.core_promises.specs.core_events.Steps.{IsIdle, May}
 use Rattle.core_promises.specs.core_events.Words.{announcements}
+use Rattle.domain_rule.specs.declared.view.SeatView.{SeatView}
 use Rattle.acquire_retire.specs.declared.payment.Payment.{Payment}
 use Rattle.acquire_retire.specs.declared.payment.Payment.TheVariants as payment
 use Rattle.acquire_retire.specs.declared.payment.Work.{Work}
@@ -73,16 +74,25 @@ WalksBy {V = V} fits d next allows (m ∷ ms) old new =
     (mid : SeatState V) × Steps fits d next allows m.act old mid m.outcome
     × WalksBy fits d next allows ms mid new
 
+-- What a view has beside its core, the objects of its slots and the client's view is as it was.
+pub record IsBeside {V : Type 0} (v new : SeatView V) : Type 0 where
+  pub cleared : new.cleared ≡ v.cleared
+  pub opened : new.opened ≡ v.opened
+  pub left_adds : new.left_adds ≡ v.left_adds
+  pub left_makes : new.left_makes ≡ v.left_makes
+
 module _ {P V : Type 0} (fits : List ℕ → Type 0) where
   -- the same without a deed
   abbrev pub Walks : DomainState P → List Move → SeatState V → SeatState V → Type 0
   Walks d = WalksBy fits d same_view IsSameView
 
-  -- and the rest of what the seat has, and the client's view, stay as they are
+  -- and the rest of what the seat has, and the client's view, stay as they are; these moves come last in its trail
   pub record Goes (d : DomainState P) (ms : List Move) (old new : SeatState V) : Type 0 where
     pub walks : Walks d ms old new
     pub rest : rest_of new.view.core ≡ rest_of old.view.core
     pub client : new.view.client ≡ old.view.client
+    pub beside : IsBeside old.view new.view
+    pub trail : new.view.core.trail ≡ old.view.core.trail ++ ms
 
   -- the seat has read these announcement words, and may read on
   pub record Reads (d : DomainState P) (seen : List ℕ) (old new : SeatState V) : Type 0 where
@@ -122,7 +132,8 @@ module _ {P V : Type 0} (fits : List ℕ → Type 0) where
 
   -- The seat has read all announcement words, those seen and then the last one, and has paid for
   -- each entry that no longer stays. It is idle then, and owes nothing. No more entries stay than
-  -- there are announcement words, so there is room for more.
+  -- there are announcement words, so there is room for more. It takes a step for each of these words,
+  -- and at most three for each entry that was retired.
   pub record Collects (d : DomainState P) (old new : SeatState V) (work : Work) : Type 0 where
     pub seen : List ℕ
     pub last : ℕ
@@ -144,3 +155,6 @@ module _ {P V : Type 0} (fits : List ℕ → Type 0) where
     pub owes_nothing : new.view.core.owed ≡ []
     pub retired : length new.view.core.retired + length payments ≡ length old.view.core.retired
     pub few : length new.view.core.retired ≤ announcements d.shape
+    pub moves :
+        announcements d.shape + length (flat_map paid_by payments)
+        ≤ announcements d.shape + 3 * length old.view.core.retired

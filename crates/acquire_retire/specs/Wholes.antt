@@ -1,5 +1,5 @@
 -- What a seat that is alone tells of the whole state.
-use Rattle.std.specs.Prelude.{ℕ, ◌≡◌, false, List, [], ◌∷◌, suc, length, slice_index, nat_lt, if◌then◌else◌, Option, Some, None, IsSome}
+use Rattle.std.specs.Prelude.{ℕ, ◌≡◌, ◌-◌, false, List, [], ◌∷◌, replicate, slice_index, nat_lt, if◌then◌else◌, Option, Some, None, IsSome}
 use Rattle.atomic_table.specs.declared.shared.Seat.{Seat as TableSeat}
 use Rattle.plain_state.specs.declared.image.Heap.{Heap}
 use Rattle.plain_state.specs.Fits.{AllFit}
@@ -62,13 +62,13 @@ module _ {V : Type 0} (fits : List ℕ → Type 0) where
     pub lawful : Lawful p
     pub fit : AllFit fits p
 
-  -- the client's law holds of that state and of the views of so many clients, the seat's first
-  pub record IsLast (law : Plain → List V → Type 0) (seats : ℕ) (v : SeatView V) : Type 0 where
+  -- The client's law holds of that state and of the views of so many clients: the seat's first, and
+  -- those of seats that left.
+  pub record IsLast (law : Plain → List V → Type 0) (gone : V) (seats : ℕ) (v : SeatView V)
+      : Type 0 where
     pub state : Plain
     pub knows : KnowsState v state
-    pub others : List V
-    pub count : suc (length others) ≡ seats
-    pub client : law state (v.client ∷ others)
+    pub client : law state (v.client ∷ replicate (seats - 1) gone)
 
   -- the heap has the words of that state, and its deferred entries
   pub record IsWholeImage (v : SeatView V) (heap : Heap) : Type 0 where

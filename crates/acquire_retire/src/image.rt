@@ -8,7 +8,8 @@ ghost use Rattle.core_promises.specs.core_events.Steps.{IsIdle};
 ghost use Rattle.core_promises.specs.core_events.Words.{word_count};
 ghost use Rattle.domain_rule.specs.Views.{IsAlone};
 ghost use Rattle.acquire_retire.specs.Calls.{IsOf};
-ghost use Rattle.acquire_retire.specs.Wholes.{IsSame, IsWholeImage, KnowsCore, known_state, known_word, strong_image};
+ghost use Rattle.core_promises.specs.Finds.{DeferredFit};
+ghost use Rattle.acquire_retire.specs.Wholes.{IsSame, IsWholeImage, KnowsCore, known_core, known_state, known_word, strong_image};
 
 use crate::domain::Domain;
 use crate::seat::Seat;
@@ -152,7 +153,7 @@ impl<P: Protocol> Domain<P> {
 
     /// The whole state as words, taken by a seat that is alone, in the middle of nothing, and owes nothing: the strong
     /// word of a slot is its count, or the zero flag alone where that stands. Snapshots are no obstacle. It loads each
-    /// word of the cells and the slots once.
+    /// word of the cells and the slots once. What all seats have deferred then is bounded by the sizes of the domain.
     pub fn image(&self, alloc: Global, seat: &mut Seat<P>) -> Result<Heap, OutOfMemory>
         requires seat { IsOf self.now seat.old }
         requires alone { IsAlone seat.old.view }
@@ -160,6 +161,7 @@ impl<P: Protocol> Domain<P> {
         requires owes_nothing { seat.old.view.core.owed ≡ [] }
         ensures stays { seat.new ≡ seat.old }
         ensures image { IfOk result (IsWholeImage P.Kind.fits seat.old.view) }
+        ensures deferred { DeferredFit self.now.shape (known_core seat.old.view) }
     {
         let mut heap = empty_image(alloc);
         self.image_into(seat, &mut heap)?;
@@ -176,6 +178,7 @@ impl<P: Protocol> Domain<P> {
         requires owes_nothing { seat.old.view.core.owed ≡ [] }
         ensures stays { seat.new ≡ seat.old }
         ensures image { OnOk result (IsWholeImage P.Kind.fits seat.old.view heap.new) }
+        ensures deferred { DeferredFit self.now.shape (known_core seat.old.view) }
     {
         self.learn(&mut seat.seat);
         self.heap_image(&mut seat.seat, seat.batch.retired(), heap)

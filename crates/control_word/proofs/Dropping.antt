@@ -1,5 +1,5 @@
 -- The steps that give up a reference, and those that follow where it was the last.
-use Rattle.std.proofs.Common.{ap, subst, sym, ◌≡◌, ◌≢◌, ◌⊎◌, inl, inr, ⊎_elim, ℕ, ◌<◌, Bool, true, false, List, [], ◌∷◌, ◌++◌, refl, ◌∙◌, arith}
+use Rattle.std.proofs.Common.{ap, subst, sym, ◌≡◌, ◌≢◌, ◌⊎◌, inl, inr, ⊎_elim, ℕ, ◌+◌, ◌<◌, Bool, true, false, List, [], ◌∷◌, ◌++◌, refl, ◌∙◌, arith}
 use Rattle.std.specs.Prelude.{◌==◌, if◌then◌else◌}
 use Rattle.std.proofs.lemmas.Bool.Decides.{nat_tests}
 use Rattle.counted_handles.specs.plain_state.declared.slot.SlotId.{SlotId}
@@ -13,9 +13,9 @@ use Rattle.acquire_retire.specs.core_events.declared.view.Move.{Move}
 use Rattle.acquire_retire.specs.core_events.declared.view.Phase.TheVariants as phase
 use Rattle.acquire_retire.specs.core_events.Shows.{show_seat}
 use Rattle.acquire_retire.specs.core_events.Steps.{HasRoom, answer, changed}
-use Rattle.acquire_retire.specs.core_events.Views.{slot_of}
+use Rattle.acquire_retire.specs.core_events.Views.{slot_of, without}
 use Rattle.counted_handles.specs.counter_word.Words.{HELP, has_help}
-use Rattle.acquire_retire.proofs.Below.core_law_Kit.{times_without}
+use Rattle.acquire_retire.proofs.Below.core_law_Kit.{times_cons, times_none, times_without}
 use Rattle.acquire_retire.specs.declared.payment.Payment.{Payment}
 use Rattle.acquire_retire.specs.declared.payment.Payment.TheVariants as payment
 use Rattle.acquire_retire.specs.Calls.{IsSameView, Steps, same_view}
@@ -196,3 +196,20 @@ pub drops_notes : {P V : Type 0} {fits : List ℕ → Type 0} (d : DomainState P
     → new.view.core.notes ≡ old.view.core.notes
 drops_notes d s old new drops =
     ap (λ (v : CoreView). v.notes) drops.1.core ∙ notes_left (ends drops.0) s old.view.core
+
+-- and the seat owns one reference to the slot fewer, and of all others as many
+owned_left : (ended : Bool) (s : SlotId) (v : CoreView)
+    → (with_ended ended s (without_strong s v)).owned ≡ without s v.owned
+owned_left true s v = refl
+owned_left false s v = refl
+
+pub drops_owned : {P V : Type 0} {fits : List ℕ → Type 0} (d : DomainState P) (s : SlotId)
+    (old new : SeatState V) → DropsStrong fits d s old new → 0 < times s old.view.core.owned
+    → (x : SlotId)
+    → times x new.view.core.owned + times x (s ∷ []) ≡ times x old.view.core.owned
+drops_owned d s old new drops owned x =
+    let left = ap (λ (v : CoreView). times x v.owned) drops.1.core
+    ∙ ap (times x) (owned_left (ends drops.0) s old.view.core) in
+    let fewer = times_without x s old.view.core.owned owned in
+    let one = times_cons x s [] in
+    let none = times_none x in omega arith

@@ -1,5 +1,5 @@
 -- How many references to a slot a seat owns after a call, for the proofs of tests.
-use Rattle.std.proofs.Common.{◌≡◌, ℕ, zero, suc, ◌+◌, ◌<◌, Bool, true, false, List, [], ◌∷◌, ◌++◌, refl, ap, sym, ◌∙◌, subst, arith}
+use Rattle.std.proofs.Common.{◌≡◌, ℕ, zero, suc, ◌+◌, ◌<◌, ◌≤◌, Bool, true, false, List, [], ◌∷◌, ◌++◌, refl, ap, sym, ◌∙◌, subst, arith}
 use Rattle.std.specs.Prelude.{slice_index_or}
 use Rattle.counted_handles.specs.plain_state.declared.act.PlainAct.{PlainAct}
 use Rattle.counted_handles.specs.plain_state.declared.slot.SlotId.{SlotId}
@@ -56,6 +56,12 @@ some_more s t same xs ys is =
     let more = times_push t s xs in
     let one = one_same t s (ap (λ (x : SlotId). x.0) (sym same)) in
     let list = ap (times t) is in omega arith
+
+-- and of no slot are there fewer then
+pub more_owned : (x s : SlotId) (xs ys : List SlotId) → ys ≡ xs ++ s ∷ [] → times x xs ≤ times x ys
+more_owned x s xs ys is =
+    let more = times_push x s xs in
+    let list = ap (times x) is in omega arith
 
 module _ {P V : Type 0} {fits : List ℕ → Type 0} {d : DomainState P}
     {next : OwnPart → OwnPart → V → PlainAct → ℕ → V}

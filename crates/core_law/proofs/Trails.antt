@@ -1,5 +1,5 @@
 -- The trail of a seat is its events with their answers.
-use Rattle.std.proofs.Common.{◌≡◌, ◌≢◌, ⊎_elim, ℕ, ◌<◌, Bool, true, false, List, [], ◌∷◌, ◌++◌, get_or, set, refl, ap, sym, ◌∙◌, subst, arith, append_assoc}
+use Rattle.std.proofs.Common.{◌≡◌, ◌≢◌, ◌⊎◌, inl, inr, ⊎_elim, ℕ, ◌<◌, Bool, true, false, List, [], ◌∷◌, ◌++◌, get_or, set, refl, ap, sym, ◌∙◌, subst, arith, append_assoc}
 use Rattle.std.specs.Prelude.{◌==◌, if◌then◌else◌}
 use Rattle.std.proofs.lemmas.List.{append-nil, length-set, get_or-set_same, get_or-set_other}
 use Rattle.std.proofs.lemmas.Bool.{cases_eq}
@@ -159,6 +159,31 @@ longer z c n e so on still =
     (subst (λ (x : Event). (view_at (after z c x.seat x.act) n).left ≡ false) same still)))
     (λ (stays : (j : ℕ) → e.act ≡ act.Leave j → ⊥). plain_longer z c n e so hm stays still)
     (is_leave e.act)
+
+-- What an event leaves of the trail of a seat that is still there: its own event comes last, and
+-- those of other seats leave it as it was.
+pub trail_after : (z : Shape) (c : Core) (n : ℕ) (e : Event) → Sound z c → Enabled z c e.seat e.act
+    → (view_at (after z c e.seat e.act) n).left ≡ false
+    → ((view_at c n).left ≡ false)
+    × (((e.seat ≡ n) × ((view_at (after z c e.seat e.act) n).trail
+    ≡ (view_at c n).trail ++ record { act = e.act; outcome = outcome_of z c e } ∷ []))
+    ⊎ ((e.seat ≢ n) × ((view_at (after z c e.seat e.act) n).trail ≡ (view_at c n).trail)))
+trail_after z c n e so on still =
+    let l = longer z c n e so on still in (
+      l.before,
+      ⊎_elim
+          (λ (same : e.seat ≡ n). inl (
+            same,
+            l.trail ∙ ap (λ (ms : List Move). (view_at c n).trail ++ ms) (own z c n e same),
+          ))
+          (λ (ne : e.seat ≢ n). inr (
+            ne,
+            l.trail
+                ∙ (ap (λ (ms : List Move). (view_at c n).trail ++ ms) (others z c n e ne)
+                ∙ append-nil (view_at c n).trail),
+          ))
+          (cases_eq e.seat n),
+    )
 
 run_trail : (z : Shape) (c : Core) (n : ℕ) (es : List Event) → Sound z c → AreEnabled z c es
     → (view_at (run z c es) n).left ≡ false

@@ -2,13 +2,15 @@
 use Rattle.std.proofs.Common.{◌≡◌, ℕ, zero, suc, ◌<◌, ◌≤◌, Bool, true, false, List, [], ◌∷◌, length, get_or, refl, ap, arith}
 use Rattle.std.specs.Prelude.{if◌then◌else◌}
 use Rattle.std.proofs.lemmas.List.Sums.{sum_by-cons}
+use Rattle.core_law.specs.core_events.declared.act.Event.{Event}
 use Rattle.core_law.specs.core_events.declared.shape.Shape.{Shape}
 use Rattle.core_law.specs.core_events.declared.view.CoreView.{CoreView}
 use Rattle.core_law.specs.core_events.Counts.{total}
 use Rattle.core_law.specs.core_events.Good.{staying_room}
-use Rattle.core_law.specs.core_events.Runs.{Core, view_at}
-use Rattle.core_law.specs.core_events.Views.{no_view}
+use Rattle.core_law.specs.core_events.Runs.{AreTerms, Core, History, IsShape, view_at}
+use Rattle.core_law.specs.core_events.Views.{Terms, no_view}
 use Rattle.core_law.specs.Sound.{Sound}
+use Rattle.core_law.proofs.Always.{history_sound}
 use Rattle.core_promises.specs.Finds.{DeferredFit, deferred}
 
 -- seat by seat at most as much is at most as much together
@@ -49,3 +51,8 @@ module _ (z : Shape) (c : Core) (so : Sound z c) where
         let w = within n (omega arith) in
         let o = so.room.others n pos (omega arith) in omega arith;
   }
+
+-- every state that has a history is sound
+pub history_fits : (z : Shape) (ts : Terms) (es : List Event) (c : Core) → IsShape z → AreTerms z ts
+    → History z ts es c → DeferredFit z c
+history_fits z ts es c shape terms h = fits z c (history_sound z ts es c shape terms h)

@@ -10,3 +10,4 @@ pub mod Trails
 pub mod Histories
 pub mod Made
 pub mod MadeAlways
+pub mod LastMove

@@ -1,5 +1,5 @@
 //! Promises about histories, and about each event that is enabled where the invariant holds.
-ghost use Rattle.std.specs.Prelude.{ℕ, ◌≡◌, ◌<◌, ◌≤◌, List, [], length, sum};
+ghost use Rattle.std.specs.Prelude.{ℕ, ◌≡◌, ◌<◌, ◌≤◌, false, List, [], ◌∷◌, ◌++◌, length, sum};
 ghost use Rattle.core_law.specs.plain_state.Lawful.{Lawful};
 ghost use Rattle.core_law.specs.plain_state.declared.slot.SlotId.{SlotId};
 ghost use Rattle.core_law.specs.core_events.declared.act.Act.{Act};
@@ -14,7 +14,8 @@ ghost use Rattle.core_law.specs.Shown.{AllShow};
 ghost use Rattle.core_promises.specs.Finds.{DeferredFit, NeverWraps, TellsTruly};
 ghost use Rattle.core_promises.specs.Destroyed.{DestroyedOnce};
 ghost use Rattle.core_promises.specs.Made.{MadeByStarts};
-ghost use Rattle.core_promises.specs.Trails.{trail_of};
+ghost use Rattle.core_law.specs.core_events.declared.view.Move.{Move};
+ghost use Rattle.core_promises.specs.Trails.{HasEvent, trail_of};
 
 /// After every list of events that are enabled in turn the core shows a lawful plain state.
 pub fn always_lawful()
@@ -71,6 +72,15 @@ pub fn history_trails()
         → trail_of c n ≡ moves_of z (start z ts) n (newest_first es []) }
 {}
 
+/// The last move of the trail of a seat that hasn't left is an event of the history, which tells the state in which the
+/// seat made it.
+pub fn last_move_happened()
+    ensures { (z : Shape) (ts : Terms) (es : List Event) (c : Core) (n : ℕ) (ms : List Move)
+        (m : Move) → IsShape z → AreTerms z ts → History z ts es c → n < z.seats
+        → (view_at c n).left ≡ false → (view_at c n).trail ≡ ms ++ m ∷ []
+        → HasEvent z ts es n m.act }
+{}
+
 /// Over every history a seat has made each slot as often as the starts of its trail are of that slot, and those of the
 /// seats that left to it. So the lives of a slot are the starts that made it.
 pub fn made_by_starts()
@@ -81,6 +91,12 @@ pub fn made_by_starts()
 /// What is deferred is bounded by the sizes of the domain.
 pub fn deferred_fit()
     ensures { (z : Shape) (c : Core) → Sound z c → DeferredFit z c }
+{}
+
+/// So it is in every state that has a history: as each step call of a running domain tells one.
+pub fn history_deferred_fit()
+    ensures { (z : Shape) (ts : Terms) (es : List Event) (c : Core) → IsShape z → AreTerms z ts
+        → History z ts es c → DeferredFit z c }
 {}
 
 /// What the tickets of a seat grant together is at most what all grants make: no ticket grants twice.

@@ -16,5 +16,6 @@ pub use core_law::{
 };
 pub use laws::{
     always_lawful, always_shows, answers_tell_truly, deferred_fit, destroyed_once, grants_fit,
-    history_lawful, history_runs, history_trails, made_by_starts, never_wraps, trails_tell,
+    history_deferred_fit, history_lawful, history_runs, history_trails, last_move_happened,
+    made_by_starts, never_wraps, trails_tell,
 };

@@ -58,7 +58,7 @@ over_none f (v ∷ vs) none =
     omega (arith, sum_by-cons f v vs, first, rest)
 
 -- a number of which seat 0 alone has any
-over_first : (f : PlainSeat → ℕ) (vs : List PlainSeat) → 0 < length vs
+pub over_first : (f : PlainSeat → ℕ) (vs : List PlainSeat) → 0 < length vs
     → ((n : ℕ) → 0 < n → n < length vs → f (get_or vs n new_seat) ≡ 0)
     → over_seats f vs ≡ f (get_or vs 0 new_seat)
 unfolding over_seats

@@ -1,12 +1,12 @@
 -- The audit of the image that a seat takes is one of the state that it knows.
-use Rattle.std.proofs.Common.{◌≡◌, ℕ, ◌^◌, ◌<◌, ◌≤◌, List, [], length, ap, sym, ◌∙◌, subst, arith}
+use Rattle.std.proofs.Common.{◌≡◌, ℕ, ◌^◌, ◌<◌, ◌≤◌, List, [], ◌++◌, length, ap, sym, ◌∙◌, subst, arith}
 use Rattle.std.specs.Prelude.{IfOk, Result, Some}
 use Rattle.plain_audit.specs.plain_state.Limits.{most_slots}
 use Rattle.plain_audit.specs.plain_state.declared.image.Heap.{Heap}
-use Rattle.plain_audit.specs.plain_state.State.{Plain}
+use Rattle.plain_audit.specs.plain_state.State.{Plain, PlainSeat, seat_at}
 use Rattle.protected_loads.specs.core_events.declared.view.CoreView.{CoreView}
 use Rattle.protected_loads.specs.core_events.Runs.{Core}
-use Rattle.protected_loads.specs.core_events.Shows.{shows}
+use Rattle.protected_loads.specs.core_events.Shows.{show_seat, shows}
 use Rattle.protected_loads.specs.core_events.Steps.{HasRoom, IsIdle}
 use Rattle.protected_loads.specs.acquire_retire.Domains.{DomainState}
 use Rattle.protected_loads.specs.acquire_retire.Seats.{SeatState}
@@ -21,6 +21,8 @@ use Rattle.plain_audit.specs.Audits.{IsAudit}
 use Rattle.plain_audit.proofs.Auditing.{audit_made}
 use Rattle.domain_audit.specs.Audits.{IsWholeAudit, KnowsLone, Stays}
 use Rattle.domain_audit.specs.Lone.{CanBeAudited, IsLone}
+use Rattle.protected_loads.proofs.Below.core_law_Bridge.{shown_seat}
+use Rattle.domain_audit.proofs.AllCyclic.{all_cyclic}
 use Rattle.domain_audit.proofs.Learning.{knows_shown}
 use Rattle.domain_audit.proofs.OneSeat.{IsLoneState, audit_same, can_be_audited, is_heap, is_image, is_settled, with_one_seat}
 use Rattle.domain_audit.proofs.Showing.{lone_state, size}
@@ -73,14 +75,27 @@ module _ {P V : Type 0} {fits : List ℕ → Type 0} (d : DomainState P) (old se
         → length ranks ≡ length image.slots.items
     ranked ranks count = count ∙ sym slots_are
 
+    -- of which the seat has this part
+    seat_is : seat_at whole.state 0 ≡ show_seat seat.view.core
+    seat_is =
+        let views = knows.sound.views in
+        let some_seat = knows.sound.shape.0 in
+        ap (λ (p : Plain). seat_at p 0) state_is
+        ∙ (shown_seat d.shape core 0 (omega arith) ∙ ap show_seat (sym knows.half))
+
     whole_audit : (weight : List ℕ → ℕ) (ranks : List ℕ) (found : Audit)
         → IsAudit weight ranks (with_one_seat whole.state) found
         → IsWholeAudit fits weight ranks seat.view found
-    whole_audit weight ranks found is = record {
-      state = whole.state;
-      knows = whole.knows;
-      audit = audit_same fits whole.state state weight ranks found is;
-    }
+    whole_audit weight ranks found is =
+        let audit = audit_same fits whole.state state weight ranks found is in record {
+          state = whole.state;
+          knows = whole.knows;
+          audit = audit;
+          left = λ holds. all_cyclic fits whole.state state
+              (ap (λ (v : PlainSeat). v.owned) seat_is ∙ holds.0)
+              (ap (λ (v : PlainSeat). v.deferred) seat_is ∙ λ i. holds.1 i ++ holds.2 i)
+              holds.3 weight ranks found audit;
+        }
 
     -- and the image leaves the seat as it is
     pub audits : {E : Type 0} (weight : List ℕ → ℕ) (ranks : List ℕ) (r : Result Audit E)

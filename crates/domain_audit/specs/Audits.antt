@@ -20,6 +20,7 @@ use Rattle.protected_loads.specs.acquire_retire.Wholes.{KnowsState, known_core}
 use Rattle.protected_loads.specs.control_word.Moves.{Becomes}
 use Rattle.plain_audit.specs.heap_audit.declared.finding.Audit.{Audit}
 use Rattle.plain_audit.specs.Audits.{IsAudit}
+use Rattle.slot_store.specs.Leftovers.{HasNullCells}
 
 -- the moves of a seat that announces a slot in its first word, and takes that back
 abbrev pub there_and_back : SlotId → List Move
@@ -41,9 +42,16 @@ module _ {P V : Type 0} (fits : List ℕ → Type 0) (d : DomainState P) where
     pub others : OthersLeft (known_core seat.view)
     pub fit : AllFit fits (shows d.shape (known_core seat.view))
 
+-- in the state p, which the seat knows, it holds nothing strongly, has deferred nothing, and all strong cells are null
+abbrev pub HoldsNothing : {V : Type 0} → SeatView V → Plain → Type 0
+HoldsNothing v p =
+    (v.core.owned ≡ []) × (v.core.owed ≡ []) × (v.core.retired ≡ []) × HasNullCells p
+
 module _ {V : Type 0} (fits : List ℕ → Type 0) (weight : List ℕ → ℕ) (ranks : List ℕ) where
-  -- the audit finds this of the whole state, as the seat knows it
+  -- The audit finds this of the whole state, as the seat knows it. Where the seat holds nothing, all that live is
+  -- unreached: so a walk is found exactly where something lives.
   pub record IsWholeAudit (v : SeatView V) (found : Audit) : Type 0 where
     pub state : Plain
     pub knows : KnowsState fits v state
     pub audit : IsAudit weight ranks state found
+    pub left : HoldsNothing v state → found.cyclic ≡ found.live

@@ -22,6 +22,7 @@ use Rattle.plain_protocol.specs.Laws.{Meets, KeptByLeave}
 use Rattle.plain_protocol.specs.Owns.{Object, object_of, has_slot, HasSlot}
 use Rattle.plain_protocol.proofs.StepFits.{step_fits}
 use Rattle.core_law.specs.core_events.declared.act.Act.TheVariants as act
+use Rattle.core_law.specs.core_events.declared.act.Event.{Event}
 use Rattle.core_law.specs.core_events.declared.outcome.Outcome.TheVariants as outcome
 use Rattle.core_law.specs.core_events.declared.shape.Shape.{Shape}
 use Rattle.core_law.specs.core_events.Views.{Terms}
@@ -40,11 +41,11 @@ use Rattle.core_law.proofs.Lawful.{shows_lawful}
 use Rattle.core_law.proofs.Each.{length_each, get_each}
 use Rattle.domain_rule.specs.declared.view.Known.{Known}
 use Rattle.domain_rule.specs.declared.view.SeatView.{SeatView}
-use Rattle.domain_rule.specs.Opening.{joined_view, gone_view, merged_object, merged_objects, same_object}
+use Rattle.domain_rule.specs.Opening.{joined_view, gone_view, merged_object, merged_objects, same_object, same_words}
 use Rattle.domain_rule.specs.Rule.{IsCleared, IsTrueOf, Tells, Kept, clients}
 use Rattle.domain_rule.specs.Views.{Stands, object_in, known_of, no_object}
 use Rattle.domain_rule.proofs.Padding.{at_less, clients_length, client_at, clients_set}
-use Rattle.domain_rule.proofs.Telling.{kept_sound, in_seats, true_of, number_of, is_root, tells_here, tells_again, set_all}
+use Rattle.domain_rule.proofs.Telling.{from_nothing, goes_on, kept_sound, in_seats, true_of, number_of, is_root, set_left, set_pasts, tells_here, tells_again, set_all}
 
 -- a slot that seat 0 has after it took over what the other had was had by one of them
 other_has : (root v : CoreView) (s : SlotId) → HasSlot (show_seat (taken_over root v)) s
@@ -78,9 +79,53 @@ pub root_has : (root v : CoreView) (s : SlotId) → HasSlot (show_seat root) s
     → HasSlot (show_seat (taken_over root v)) s
 root_has root v s has = let p = parts root v s in grind (arith, nat_tests)
 
+-- a payload is itself, and two that are found to be one are
+words_alone : (xs : List ℕ) → same_words xs xs ≡ true
+unfolding same_words
+words_alone [] = refl
+words_alone (x ∷ xs) = rw (eq-eqb x x refl) (words_alone xs)
+
+words_one : (xs ys : List ℕ) → same_words xs ys ≡ true → xs ≡ ys
+unfolding same_words
+words_one [] [] e = refl
+words_one [] (y ∷ ys) e = absurd (cc (e))
+words_one (x ∷ xs) [] e = absurd (cc (e))
+words_one (x ∷ xs) (y ∷ ys) e = ⊎_elim
+    (λ (same : x ≡ y).
+    let rest = words_one xs ys (subst (λ (b : Bool). (if b then same_words xs ys else false) ≡ true)
+    (eq-eqb x y same) e) in λ i. same i ∷ rest i)
+    (λ (apart : x ≢ y). absurd (differ (subst
+    (λ (b : Bool). (if b then same_words xs ys else false) ≡ true) (ne_eqb x y apart) e)))
+    (cases_eq x y)
+  where
+    differ : false ≡ true → ⊥
+    differ f = absurd (cc (f))
+
 -- what is known of one object twice is what is known of it
 same_alone : (it : Object) → same_object it it ≡ it
-same_alone it = rw (eq-eqb it.life it.life refl) refl
+same_alone it = rw (eq-eqb it.life it.life refl) (rw (words_alone it.payload) refl)
+
+-- two seats that know an object alike know it as one
+pub known_once : (mine other : Object) → mine ≡ other → same_object mine other ≡ mine
+known_once mine other same =
+    ap (λ (o : Object). same_object mine o) (sym same) ∙ same_alone mine
+
+-- and they do where sixteen words are left of it
+words_left : (mine other : Object) → length (same_object mine other).payload ≡ 16
+    → mine.life ≡ other.life → mine ≡ other
+words_left mine other words life = go (same_words mine.payload other.payload) refl
+  where
+    differs : {n : ℕ} → n ≡ 0 → n ≡ 16 → ⊥
+    differs e f = omega arith
+
+    go : (b : Bool) → same_words mine.payload other.payload ≡ b → mine ≡ other
+    go true is =
+        let payload = words_one mine.payload other.payload is in
+        λ i. record { life = life i; payload = payload i }
+    go false is =
+        let none : (same_object mine other).payload ≡ [] =
+        rw (eq-eqb mine.life other.life life) (rw is refl) in
+        absurd (differs (ap length none) words)
 
 -- what stands in two lists together stands in one of them
 stands_in : (ps qs : List EventPlace) (p : EventPlace) → Stands p (ps ++ qs)
@@ -129,6 +174,18 @@ module _ {V : Type 0} (root v : SeatView V) (z : Shape) (same : root.core.shape 
         both_known : known s.0 ≡ known_of (same_object (object_in root s) (object_in v s))
         both_known = rw mine (rw others refl)
 
+    -- and the whole object alike
+    pub alike_whole : s.0 < z.slots → HasSlot (show_seat root.core) s
+        → HasSlot (show_seat v.core) s
+        → length (get_or (merged_objects root v) s.0 no_object).payload ≡ 16
+        → object_in root s ≡ object_in v s
+    alike_whole hs mine others words =
+        let both : known s.0 ≡ known_of (same_object (object_in root s) (object_in v s)) =
+        rw mine (rw others refl) in
+        words_left (object_in root s) (object_in v s)
+        (sym (ap (λ (o : Known). length o.payload) (merged_at hs ∙ both)) ∙ words)
+        (alike hs mine others words)
+
     merged_past : z.slots ≤ s.0 → get_or (merged_objects root v) s.0 no_object ≡ no_object
     merged_past le =
         let n = ap (λ (y : Shape). y.slots) same in
@@ -143,7 +200,7 @@ module _ {V : Type 0} (law : Plain → List V → Type 0) (first : ℕ → V) (f
   abbrev both : SeatView V
   both = joined_view joined v w
 
-  module _ (s : State (Unit {0}) (SeatView V)) (k : Kept law first fits z ts s)
+  module _ (s : State (Unit {0}) (SeatView V)) (k : Kept law first gone fits z ts s)
       (at : get_elem? s.views id ≡ some v) (apart : ¬ (other ≡ id))
       (at' : get_elem? (set s.views id both) other ≡ some w) where
     abbrev c : Core
@@ -341,20 +398,34 @@ module _ {V : Type 0} (law : Plain → List V → Type 0) (first : ℕ → V) (f
         ∙ sym clients_then)
         (leave (shows z k.core) (shows z d) other 0 (clients first z.seats s.views) meets does)
 
+    abbrev left_now : Event
+    left_now = record { seat = 0; act = act.Leave other }
+
+    abbrev latest : List Event
+    latest = left_now ∷ k.events
+
     -- the rule after the leave: its event joins the history
-    kept_then : Kept law first fits z ts (record { words = s.words; homes = s.homes; views = views })
+    kept_then : Kept law first gone fits z ts (record { words = s.words; homes = s.homes; views = views })
     kept_then =
         let l = all_length in
         let f = k.few in
         let h = at_less s.views other w atj in record {
           shape = k.shape;
           terms = k.terms;
-          events = record { seat = 0; act = act.Leave other } ∷ k.events;
+          events = latest;
           core = d;
           history = (k.core, k.history, (on, refl));
           words = k.words ∙ sym (set-get_or k.core.words 0 0);
           few = (omega arith, omega arith);
           tells = views_tell;
+          pasts = set_pasts (set s.views id both) other (gone_view gone) latest latest
+              (from_nothing latest) (λ past goes. goes) (set_pasts s.views id both k.events latest
+              (goes_on left_now v.past k.events (k.pasts id v at))
+              (λ past. goes_on left_now past k.events) k.pasts);
+          left = set_left (set s.views id both) other (gone_view gone) gone
+              ((λ e. absurd (cc (e))), (λ _. refl))
+              (set_left s.views id both gone ((λ _. (k.left id v at).0 here), (λ e. absurd (cc (here, e))))
+              k.left);
           root = root_stays;
           unopened = λ n le hn. rest_core n (omega arith) (omega arith)
               ∙ k.unopened n (omega arith) hn;
@@ -363,6 +434,6 @@ module _ {V : Type 0} (law : Plain → List V → Type 0) (first : ℕ → V) (f
           client = client_law;
         }
 
-  pub leaves : Joins (Kept law first fits z ts) id v other w (joined_view joined v w)
+  pub leaves : Joins (Kept law first gone fits z ts) id v other w (joined_view joined v w)
       (gone_view gone)
   leaves = kept_then

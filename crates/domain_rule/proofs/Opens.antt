@@ -23,7 +23,8 @@ use Rattle.domain_rule.specs.declared.view.Known.{Known}
 use Rattle.domain_rule.specs.declared.view.Whole.{Whole}
 use Rattle.domain_rule.specs.declared.view.SeatView.{SeatView}
 use Rattle.domain_rule.specs.Opening.{first_of}
-use Rattle.domain_rule.specs.Rule.{IsTrueOf, Tells, Kept, OthersLeft, clients}
+use Rattle.domain_rule.specs.Past.{GoesOnFrom}
+use Rattle.domain_rule.specs.Rule.{IsHereOrGone, IsTrueOf, Tells, Kept, OthersLeft, clients}
 use Rattle.domain_rule.specs.Views.{core_in, whole_of, known_of, objects_of, no_object}
 use Rattle.domain_rule.proofs.Padding.{clients_more}
 use Rattle.domain_rule.proofs.StartShown.{first_seen, start_shown}
@@ -44,8 +45,8 @@ empty_fits fits seats slots cells weak_cells s has =
     let free = ap (λ (x : PlainSlot). x.stage) (every_slot_new seats slots cells weak_cells s) in
     absurd (⊎_elim (λ live. cc (free, live)) (λ ended. cc (free, ended)) has)
 
-module _ {V : Type 0} (law : Plain → List V → Type 0) (first : ℕ → V) (fits : List ℕ → Type 0)
-    (z : Shape) (ts : Terms) (shape : IsShape z) (terms : AreTerms z ts) where
+module _ {V : Type 0} (law : Plain → List V → Type 0) (first : ℕ → V) (gone : V)
+    (fits : List ℕ → Type 0) (z : Shape) (ts : Terms) (shape : IsShape z) (terms : AreTerms z ts) where
   abbrev begun : SeatView V
   begun = first_of first z ts
 
@@ -85,7 +86,7 @@ module _ {V : Type 0} (law : Plain → List V → Type 0) (first : ℕ → V) (f
       ∙ ap (λ (n : ℕ). map first (range_with_len 0 n)) e
 
   pub opens : Starts law first
-      → Kept law first fits z ts (opening (first_words z) [] (first_of first z ts))
+      → Kept law first gone fits z ts (opening (first_words z) [] (first_of first z ts))
   opens starts = record {
     shape = shape;
     terms = terms;
@@ -98,6 +99,10 @@ module _ {V : Type 0} (law : Plain → List V → Type 0) (first : ℕ → V) (f
         let o = only begun v n at in
         subst (λ (t : ℕ × SeatView V). Tells z (start z ts) t.0 t.1) (λ i. (sym o.0 i, o.1 i))
         begun_true;
+    pasts = λ n v at. subst (λ (u : SeatView V). GoesOnFrom u.past []) (only begun v n at).1
+        ([], refl);
+    left = λ n v at. subst (λ (u : SeatView V). IsHereOrGone gone u) (only begun v n at).1
+        ((λ _. refl), (λ e. absurd (cc (e))));
     root = λ v at.
         let o = only begun v 0 at in (
           ap (λ (u : SeatView V). u.gone) (sym o.1),

@@ -19,7 +19,7 @@ use Rattle.domain_rule.specs.Rule.{IsTrueOf, Kept, OthersLeft}
 use Rattle.domain_rule.specs.Views.{core_in, whole_of, IsAlone}
 use Rattle.domain_rule.proofs.Counting.{others_left}
 use Rattle.domain_rule.proofs.Padding.{clients_same}
-use Rattle.domain_rule.proofs.Telling.{kept_sound, in_seats, number_of, true_of, tells_here, set_all, set_tells}
+use Rattle.domain_rule.proofs.Telling.{kept_sound, in_seats, number_of, true_of, tells_here, set_all, set_left, set_pasts, set_tells}
 
 alone_cases : {V : Type 0} (v : SeatView V) → IsAlone v ⊎ (IsAlone v → ⊥)
 alone_cases v = ⊎_elim
@@ -34,14 +34,14 @@ pub known_is : (known : Option Whole) (Fact : Type 0) → ((all : Whole) → kno
 known_is None Fact then is = absurd (cc (is))
 known_is (Some all) Fact then is = then all refl
 
-module _ {V : Type 0} (law : Plain → List V → Type 0) (first : ℕ → V) (fits : List ℕ → Type 0)
-    (z : Shape) (ts : Terms) (slots id word : ℕ) (me : Me (Unit {0}) (SeatView V))
+module _ {V : Type 0} (law : Plain → List V → Type 0) (first : ℕ → V) (gone : V)
+    (fits : List ℕ → Type 0) (z : Shape) (ts : Terms) (slots id word : ℕ) (me : Me (Unit {0}) (SeatView V))
     (here : me.0.gone ≡ false) where
   -- what the load tells
   abbrev Then : ℕ → Me (Unit {0}) (SeatView V) → Type 0
   Then w m = HasRead fits z ts word w me.0 m.0 × (m.1 ≡ me.1)
 
-  module _ (s : State (Unit {0}) (SeatView V)) (k : Kept law first fits z ts s)
+  module _ (s : State (Unit {0}) (SeatView V)) (k : Kept law first gone fits z ts s)
       (at : get_elem? s.views id ≡ some me.0) where
     before : IsTrueOf z k.core id me.0
     before = true_of z ts s k id me.0 at here
@@ -80,7 +80,7 @@ module _ {V : Type 0} (law : Plain → List V → Type 0) (first : ℕ → V) (f
     -- what the table asks of a load
     abbrev Reads : Type 0
     Reads = (v : SeatView V) × (a : Act (Unit {0})) × Valid s.homes me.1 a
-        × Kept law first fits z ts (stepped s word (slice_index s.words word) id me.1 v a)
+        × Kept law first gone fits z ts (stepped s word (slice_index s.words word) id me.1 v a)
         × Then (slice_index s.words word) (v, carried_after me.1 a)
 
     -- the seat knows so much of the whole core from here on
@@ -111,7 +111,7 @@ module _ {V : Type 0} (law : Plain → List V → Type 0) (first : ℕ → V) (f
           (subst (λ (n : ℕ). get_elem? s.views n ≡ some t) root found) in
           (old.0, old.1 ∙ sym l)) 0 u e refl
 
-      kept : Kept law first fits z ts after
+      kept : Kept law first gone fits z ts after
       kept =
           let l = length-set s.views id told in
           let f = k.few in record {
@@ -124,6 +124,9 @@ module _ {V : Type 0} (law : Plain → List V → Type 0) (first : ℕ → V) (f
             few = (omega arith, omega arith);
             tells = set_tells z k.core s.views id told
                 (tells_here z k.core id told here told_true) (λ n u ne. k.tells n u);
+            pasts = set_pasts s.views id told k.events k.events (k.pasts id me.0 at)
+                (λ past goes. goes) k.pasts;
+            left = set_left s.views id told gone (k.left id me.0 at) k.left;
             root = root_stays;
             unopened = λ n le h. k.unopened n (omega arith) h;
             fit = k.fit;
@@ -138,6 +141,7 @@ module _ {V : Type 0} (law : Plain → List V → Type 0) (first : ℕ → V) (f
         events = k.events;
         core = k.core;
         history = k.history;
+        since = k.pasts id me.0 at;
         fit = k.fit;
         says = subst (λ (n : ℕ). IsTrueOf z k.core n told) (sym number) told_true;
         word = ap (λ (ws : List ℕ). slice_index ws word) k.words;
@@ -169,5 +173,5 @@ module _ {V : Type 0} (law : Plain → List V → Type 0) (first : ℕ → V) (f
     allowed (inr others_here) = answer me.0.whole before.whole (λ _. refl)
         (λ alone. absurd (others_here alone))
 
-  pub reads : Allows (Kept law first fits z ts) slots id me word (λ w. w) Then
+  pub reads : Allows (Kept law first gone fits z ts) slots id me word (λ w. w) Then
   reads s k homes at small = allowed s k at (alone_cases me.0)

@@ -19,10 +19,11 @@ use Rattle.core_law.specs.core_events.Shows.{shows}
 use Rattle.domain_rule.specs.declared.view.Whole.{Whole}
 use Rattle.domain_rule.specs.declared.view.SeatView.{SeatView}
 use Rattle.domain_rule.specs.Opening.{opened_view, opened_more}
-use Rattle.domain_rule.specs.Rule.{IsTrueOf, Tells, Kept, clients}
+use Rattle.domain_rule.specs.Past.{GoesOnFrom}
+use Rattle.domain_rule.specs.Rule.{IsHereOrGone, IsTrueOf, Tells, Kept, clients}
 use Rattle.domain_rule.specs.Views.{whole_of}
 use Rattle.domain_rule.proofs.Padding.{at_less, at_pushed, clients_same, clients_more}
-use Rattle.domain_rule.proofs.Telling.{true_of, is_root, tells_here, set_tells}
+use Rattle.domain_rule.proofs.Telling.{from_nothing, is_root, set_left, set_pasts, set_tells, tells_here, true_of}
 
 -- a new seat has no slot
 new_has_none : (s : SlotId) → HasSlot new_seat s → ⊥
@@ -36,8 +37,8 @@ knows_less z n c all some_seat more e =
     let several : (z.seats == 1) ≡ false = grind (arith, nat_tests) in
     absurd (cc (several, e))
 
-module _ {V : Type 0} (law : Plain → List V → Type 0) (first : ℕ → V) (fits : List ℕ → Type 0)
-    (z : Shape) (ts : Terms) (id : ℕ) (v : SeatView V) (here : v.gone ≡ false)
+module _ {V : Type 0} (law : Plain → List V → Type 0) (first : ℕ → V) (gone : V)
+    (fits : List ℕ → Type 0) (z : Shape) (ts : Terms) (id : ℕ) (v : SeatView V) (here : v.gone ≡ false)
     (root : v.core.seat ≡ 0) (more : v.opened < z.seats) where
   abbrev left : SeatView V
   left = opened_more v
@@ -45,7 +46,7 @@ module _ {V : Type 0} (law : Plain → List V → Type 0) (first : ℕ → V) (f
   abbrev new : SeatView V
   new = opened_view first z ts v.opened
 
-  module _ (s : State (Unit {0}) (SeatView V)) (k : Kept law first fits z ts s)
+  module _ (s : State (Unit {0}) (SeatView V)) (k : Kept law first gone fits z ts s)
       (at : get_elem? s.views id ≡ some v) where
     abbrev views : List (SeatView V)
     views = set s.views id left ++ new ∷ []
@@ -87,6 +88,21 @@ module _ {V : Type 0} (law : Plain → List V → Type 0) (first : ℕ → V) (f
         (λ i. (sym (last.0 ∙ left_length) i, last.1 i)) new_true)
         (at_pushed (set s.views id left) new u n e)
 
+    pasts : (n : ℕ) (u : SeatView V) → get_elem? views n ≡ some u → GoesOnFrom u.past k.events
+    pasts n u e = ⊎_elim
+        (λ old. set_pasts s.views id left k.events k.events (k.pasts id v at) (λ past goes. goes)
+        k.pasts n u old)
+        (λ last. subst (λ (t : SeatView V). GoesOnFrom t.past k.events) last.1
+        (from_nothing k.events))
+        (at_pushed (set s.views id left) new u n e)
+
+    lefts : (n : ℕ) (u : SeatView V) → get_elem? views n ≡ some u → IsHereOrGone gone u
+    lefts n u e = ⊎_elim
+        (λ old. set_left s.views id left gone (k.left id v at) k.left n u old)
+        (λ last. subst (λ (t : SeatView V). IsHereOrGone gone t) last.1
+        ((λ _. refl), (λ f. absurd (cc (f)))))
+        (at_pushed (set s.views id left) new u n e)
+
     root_stays : (u : SeatView V) → get_elem? views 0 ≡ some u
         → (u.gone ≡ false) × (u.opened ≡ length views)
     root_stays u e =
@@ -105,7 +121,7 @@ module _ {V : Type 0} (law : Plain → List V → Type 0) (first : ℕ → V) (f
         ∙ clients_same first z.seats s.views id v left at refl
 
     -- the rule after the opening: the core stays as it is
-    kept_then : Kept law first fits z ts (record { words = s.words; homes = s.homes; views = views })
+    kept_then : Kept law first gone fits z ts (record { words = s.words; homes = s.homes; views = views })
     kept_then =
         let l = all_length in
         let c = count in record {
@@ -117,12 +133,14 @@ module _ {V : Type 0} (law : Plain → List V → Type 0) (first : ℕ → V) (f
           words = k.words;
           few = (omega arith, omega arith);
           tells = views_tell;
+          pasts = pasts;
+          left = lefts;
           root = root_stays;
           unopened = λ n le h. k.unopened n (omega arith) h;
           fit = k.fit;
           client = subst (law (shows z k.core)) (sym same_clients) k.client;
         }
 
-  pub splits : Splits (Kept law first fits z ts) id v (opened_more v)
+  pub splits : Splits (Kept law first gone fits z ts) id v (opened_more v)
       (opened_view first z ts v.opened)
   splits = kept_then

@@ -8,6 +8,7 @@ use Rattle.plain_protocol.specs.plain_state.State.{PlainSeat}
 use Rattle.plain_protocol.specs.Owns.{HasSlot}
 use Rattle.core_law.specs.core_events.declared.act.Act.{Act}
 use Rattle.core_law.specs.core_events.declared.act.Act.TheVariants as act
+use Rattle.core_law.specs.core_events.declared.act.Event.{Event}
 use Rattle.core_law.specs.core_events.declared.shape.Shape.{Shape}
 use Rattle.core_law.specs.core_events.declared.view.CoreView.{CoreView}
 use Rattle.core_law.specs.core_events.Runs.{Core, Enabled, RestMay, after, found, view_at}
@@ -30,14 +31,16 @@ use Rattle.domain_rule.proofs.OwnCleared.{own_cleared}
 use Rattle.domain_rule.proofs.Owns.{told_object}
 use Rattle.domain_rule.proofs.Telling.{tells_again}
 
--- the view of a seat that made an act, found w and led to d
-abbrev pub stepped_view : {V : Type 0} → Shape → Core → Act → ℕ → V → SeatView V → SeatView V
-stepped_view z d a w client v =
+-- the view of a seat that made an act, found w and led to d, the last of these events
+abbrev pub stepped_view : {V : Type 0} → Shape → Core → Act → ℕ → List Event → V → SeatView V
+    → SeatView V
+stepped_view z d a w past client v =
     record v {
       core = moved z a w v.core;
       objects = objects_of (shows z d);
       cleared = cleared_after a v.core v.cleared;
       whole = whole_after z a v;
+      past = past;
       gone = false;
       client = client;
     }
@@ -155,12 +158,12 @@ module _ (z : Shape) (c : Core) (so : Sound z c) (n : ℕ) (a : Act) (on : Enabl
                     ∙ t.2 m pos (omega arith),
               )
 
-      pub own_tells : (w : ℕ) (client : V) → w ≡ found z c n a
-          → IsTrueOf z (after z c n a) n (stepped_view z (after z c n a) a w client v)
-      own_tells w client is = record {
+      pub own_tells : (w : ℕ) (past : List Event) (client : V) → w ≡ found z c n a
+          → IsTrueOf z (after z c n a) n (stepped_view z (after z c n a) a w past client v)
+      own_tells w past client is = record {
         core = core_after w is;
         objects = λ s has. told_object (shows z (after z c n a))
-            (stepped_view z (after z c n a) a w client v) s refl;
+            (stepped_view z (after z c n a) a w past client v) s refl;
         cleared = λ p stands.
             let e = so.views in
             let h = on.0 in

@@ -1,5 +1,5 @@
 -- A step of a seat, with a deed that is ready for it, keeps the rule.
-use Rattle.std.proofs.Common.{◌≡◌, ◌≢◌, ⊎_elim, ℕ, ◌<◌, false, List, ◌∷◌, length, get_or, set, refl, ap, sym, ◌∙◌, subst, arith}
+use Rattle.std.proofs.Common.{◌≡◌, ◌≢◌, ⊎_elim, ℕ, ◌<◌, false, List, [], ◌∷◌, length, get_or, set, refl, ap, sym, ◌∙◌, subst, arith}
 use Rattle.std.specs.Prelude.{slice_index, Option, Some, None, IsSome}
 use Rattle.std.specs.Option.{option_map}
 use Rattle.std.proofs.lemmas.List.{length-map, length-set}
@@ -18,6 +18,7 @@ use Rattle.plain_protocol.specs.Owns.{HasSlot, Object, OwnPart, own_part}
 use Rattle.plain_protocol.proofs.StepFits.{step_fits}
 use Rattle.core_law.specs.core_events.declared.act.Act.{Act}
 use Rattle.core_law.specs.core_events.declared.act.Act.TheVariants as act
+use Rattle.core_law.specs.core_events.declared.act.Event.{Event}
 use Rattle.core_law.specs.core_events.declared.shape.Shape.{Shape}
 use Rattle.core_law.specs.core_events.Views.{Terms}
 use Rattle.core_law.specs.core_events.declared.view.CoreView.{CoreView}
@@ -45,7 +46,7 @@ use Rattle.domain_rule.proofs.Others.{fills_has, has_there, shown_there}
 use Rattle.domain_rule.proofs.Owns.{own_told, shown_payload, told_object}
 use Rattle.domain_rule.proofs.Padding.{at_less, client_at, clients_length, clients_set}
 use Rattle.domain_rule.proofs.Step.{core_after, other_after, other_tells, own_tells, rest_may, stepped_view, views_stay}
-use Rattle.domain_rule.proofs.Telling.{in_seats, kept_sound, number_of, true_of}
+use Rattle.domain_rule.proofs.Telling.{goes_on, in_seats, kept_sound, number_of, set_left, set_pasts, true_of}
 
 module _ {V : Type 0} (law : Plain → List V → Type 0) (first : ℕ → V) (gone : V)
     (fits : List ℕ → Type 0) (ready : OwnPart → V → PlainAct → Type 0)
@@ -67,7 +68,7 @@ module _ {V : Type 0} (law : Plain → List V → Type 0) (first : ℕ → V) (g
       all_are = λ i. (own_is i, then_is i, view_is i)
 
   module _ (z : Shape) (ts : Terms) (s : State (Unit {0}) (SeatView V))
-      (k : Kept law first fits z ts s) (n : ℕ) (v : SeatView V)
+      (k : Kept law first gone fits z ts s) (n : ℕ) (v : SeatView V)
       (at : get_elem? s.views n ≡ some v) (here : v.gone ≡ false) (knows : KnowsAll v) (a : Act)
       (own : IsOwn a v) (may : May z a v.core) (starts : FitsStart fits a v)
       (is_ready : (w : ℕ) → ready (own_of v) v.client (shown_act z a w v.core)) where
@@ -138,13 +139,17 @@ module _ {V : Type 0} (law : Plain → List V → Type 0) (first : ℕ → V) (g
     still : Sound z d
     still = step_keeps z c n a so on
 
+    -- the history after the step
+    abbrev latest : List Event
+    latest = record { seat = n; act = a } ∷ k.events
+
     -- the seat's own part after the step, whatever its client keeps then
     abbrev own_then : OwnPart
     own_then = own_of (stepped_view z (after z k.core n a) a
-        (slice_index s.words (place z a v.core)) v.client v)
+        (slice_index s.words (place z a v.core)) latest v.client v)
 
     -- a seat that is alone then was alone, and knows the whole core still
-    knows_then : KnowsAll (stepped_view z d a w v.client v)
+    knows_then : KnowsAll (stepped_view z d a w latest v.client v)
     knows_then alone =
         let is = core_after z c so n a on single v told w found_is in
         let e = so.views in
@@ -171,9 +176,9 @@ module _ {V : Type 0} (law : Plain → List V → Type 0) (first : ℕ → V) (g
     own_told_then =
         let l = views_stay z c so n a on single in
         let h = hn in
-        own_told z d still n (stepped_view z d a w v.client v) (omega arith)
-        (own_tells z c so n a on single v told w v.client found_is) knows_then
-        (others_left z ts (record { seat = n; act = a } ∷ k.events) d k.shape k.terms
+        own_told z d still n (stepped_view z d a w latest v.client v) (omega arith)
+        (own_tells z c so n a on single v told w latest v.client found_is) knows_then
+        (others_left z ts latest d k.shape k.terms
         (c, k.history, (on, refl)))
 
     -- the deed's next view, and what the deed owes of it
@@ -195,13 +200,13 @@ module _ {V : Type 0} (law : Plain → List V → Type 0) (first : ℕ → V) (g
 
     -- the seat's new view, among those of all seats
     abbrev v' : SeatView V
-    v' = stepped_view z d a w client' v
+    v' = stepped_view z d a w latest client' v
 
     tells : (m : ℕ) (u : SeatView V) → get_elem? (set s.views n v') m ≡ some u → Tells z d m u
     tells m u e = ⊎_elim
         (λ (t : (m ≡ n) × (v' ≡ u)).
         subst (λ (x : ℕ × SeatView V). Tells z d x.0 x.1) (λ i. (sym t.0 i, t.1 i))
-        (own_tells z c so n a on single v told w client' found_is))
+        (own_tells z c so n a on single v told w latest client' found_is))
         (λ (t : (m ≢ n) × (get_elem? s.views m ≡ some u)).
         let sv = so.views in
         let l = in_seats z ts s k m u t.1 in
@@ -228,17 +233,20 @@ module _ {V : Type 0} (law : Plain → List V → Type 0) (first : ℕ → V) (g
     still_fit : AllFit fits (shows z d)
     still_fit = step_fits fits (shows z c) (shows z d) n step number shown made_fits k.fit
 
-    still_kept : (carried : List (ℕ × Unit {0})) → Kept law first fits z ts (after_step carried)
+    still_kept : (carried : List (ℕ × Unit {0})) → Kept law first gone fits z ts (after_step carried)
     still_kept carried = record {
       shape = k.shape;
       terms = k.terms;
-      events = record { seat = n; act = a } ∷ k.events;
+      events = latest;
       core = d;
       history = (c, k.history, (on, refl));
       words = λ i. set (k.words i) (place z a (told.core i))
           (next a (told.core i) (found_is i));
       few = rw (length-set s.views n v') k.few;
       tells = tells;
+      pasts = set_pasts s.views n v' k.events latest ([], refl)
+          (λ past. goes_on (record { seat = n; act = a }) past k.events) k.pasts;
+      left = set_left s.views n v' gone (((λ _. (changed_trail z a w v.core).left ∙ (k.left n v at).0 here), (λ e. absurd (cc (e))))) k.left;
       root = root;
       unopened = λ m le lt.
           let l = length-set s.views n v' in
@@ -281,9 +289,11 @@ module _ {V : Type 0} (law : Plain → List V → Type 0) (first : ℕ → V) (g
             × allows (shows z c) (shows z (after z c m a)) m v.client client') (sym seat_is)
             (k.fit, still_fit, owed.1);
       };
+      since = k.pasts n v at;
+      past = ap (λ (m : ℕ). record { seat = m; act = a } ∷ k.events) (sym seat_is);
       said = subst (λ (m : ℕ). IsTrueOf z c m v) (sym seat_is) told;
       says = subst (λ (m : ℕ). IsTrueOf z (after z c m a) m v') (sym seat_is)
-          (own_tells z c so n a on single v told w client' found_is);
+          (own_tells z c so n a on single v told w latest client' found_is);
     }
       where
         seat_is : v.core.seat ≡ n
@@ -298,7 +308,7 @@ module _ {V : Type 0} (law : Plain → List V → Type 0) (first : ℕ → V) (g
       (me : Me (Unit {0}) (SeatView V))
       → me.0.gone ≡ false → KnowsAll me.0 → IsOwn a me.0 → May z a me.0.core → FitsStart fits a me.0
       → ((m : ℕ) → ready (own_of me.0) me.0.client (shown_act z a m me.0.core))
-      → Allows (Kept law first fits z ts) slots n me (place z a me.0.core) (next a me.0.core)
+      → Allows (Kept law first gone fits z ts) slots n me (place z a me.0.core) (next a me.0.core)
       (λ m then. Told fits z ts next_view allows a me.0 m then.0 × (then.1 ≡ me.1))
   step_allowed z ts a slots n me here knows own may starts is_ready s k len at small = (
     v' z ts s k n me.0 at here knows a own may starts is_ready,

@@ -1,11 +1,12 @@
 -- What the rule tells of one seat by its view.
-use Rattle.std.proofs.Common.{◌≡◌, ◌≢◌, ⊎_elim, ℕ, ◌<◌, Bool, true, false, List, set, refl, ap, sym, ◌∙◌, subst, arith}
+use Rattle.std.proofs.Common.{◌≡◌, ◌≢◌, ⊎_elim, ℕ, ◌<◌, Bool, true, false, List, [], ◌∷◌, set, refl, ap, sym, ◌∙◌, subst, arith, append-nil}
 use Rattle.std.specs.Bool.{MatchBool}
 use mathlib.Core.Option.{some}
 use lib.ListN.{get_elem?}
 use Rattle.atomic_table.specs.Table.{State}
 use Rattle.atomic_table.proofs.Lists.{at_set}
 use Rattle.plain_protocol.specs.plain_state.State.{Plain}
+use Rattle.core_law.specs.core_events.declared.act.Event.{Event}
 use Rattle.core_law.specs.core_events.declared.shape.Shape.{Shape}
 use Rattle.core_law.specs.core_events.Views.{Terms}
 use Rattle.core_law.specs.core_events.declared.view.CoreView.{CoreView}
@@ -13,7 +14,8 @@ use Rattle.core_law.specs.core_events.Runs.{Core, view_at}
 use Rattle.core_law.specs.Sound.{Sound}
 use Rattle.core_law.proofs.Always.{history_sound}
 use Rattle.domain_rule.specs.declared.view.SeatView.{SeatView}
-use Rattle.domain_rule.specs.Rule.{IsTrueOf, Tells, Kept}
+use Rattle.domain_rule.specs.Past.{GoesOnFrom}
+use Rattle.domain_rule.specs.Rule.{IsHereOrGone, IsTrueOf, Tells, Kept}
 use Rattle.domain_rule.proofs.Padding.{at_less}
 
 -- one case of a match is enough where the other can't be
@@ -59,25 +61,51 @@ pub set_tells : {V : Type 0} (z : Shape) (c : Core) (views : List (SeatView V)) 
     → (n : ℕ) (u : SeatView V) → get_elem? (set views i w) n ≡ some u → Tells z c n u
 set_tells z c views i w own others = set_all (Tells z c) views i w own others
 
-module _ {V : Type 0} {law : Plain → List V → Type 0} {first : ℕ → V} {fits : List ℕ → Type 0}
-    (z : Shape) (ts : Terms) (s : State (Unit {0}) (SeatView V)) (k : Kept law first fits z ts s)
-  where
-    pub kept_sound : Sound z k.core
-    kept_sound = history_sound z ts k.events k.core k.shape k.terms k.history
+-- a history that goes on from a past still does with one event more
+pub goes_on : (e : Event) (past events : List Event) → GoesOnFrom past events
+    → GoesOnFrom past (e ∷ events)
+goes_on e past events goes = (e ∷ goes.0, ap (λ (es : List Event). e ∷ es) goes.1)
 
-    module _ (n : ℕ) (v : SeatView V) (at : get_elem? s.views n ≡ some v) where
-      pub in_seats : n < z.seats
-      in_seats = let l = at_less s.views n v at in let f = k.few.1 in omega arith
+-- and every one does from nothing
+pub from_nothing : (events : List Event) → GoesOnFrom [] events
+from_nothing events = (events, sym (append-nil events))
 
-      pub true_of : v.gone ≡ false → IsTrueOf z k.core n v
-      true_of here = here_case ((view_at k.core n).left ≡ true) (IsTrueOf z k.core n v) v.gone here
-          (k.tells n v at)
+module _ {V : Type 0} (views : List (SeatView V)) (i : ℕ) (w : SeatView V) where
+  -- a seat's view is given anew, after so many events: each tells a past of these events
+  pub set_pasts : (past events : List Event) → GoesOnFrom w.past events
+      → ((m : List Event) → GoesOnFrom m past → GoesOnFrom m events)
+      → ((n : ℕ) (u : SeatView V) → get_elem? views n ≡ some u → GoesOnFrom u.past past)
+      → (n : ℕ) (u : SeatView V) → get_elem? (set views i w) n ≡ some u
+      → GoesOnFrom u.past events
+  set_pasts past events own more pasts = set_all (λ n u. GoesOnFrom u.past events) views i w own
+      (λ n u apart at. more u.past (pasts n u at))
 
-      -- the seat's number stands in its view
-      pub number_of : v.gone ≡ false → v.core.seat ≡ n
-      number_of here =
-          ap (λ (u : CoreView). u.seat) (true_of here).core ∙ (kept_sound.seats n in_seats).number
+  -- and each is here or gone
+  pub set_left : (gone : V) → IsHereOrGone gone w
+      → ((n : ℕ) (u : SeatView V) → get_elem? views n ≡ some u → IsHereOrGone gone u)
+      → (n : ℕ) (u : SeatView V) → get_elem? (set views i w) n ≡ some u → IsHereOrGone gone u
+  set_left gone own left = set_all (λ n u. IsHereOrGone gone u) views i w own
+      (λ n u apart at. left n u at)
 
-      -- seat 0 is there, by its number
-      pub is_root : v.gone ≡ false → v.core.seat ≡ 0 → n ≡ 0
-      is_root here root = sym (number_of here) ∙ root
+module _ {V : Type 0} {law : Plain → List V → Type 0} {first : ℕ → V} {gone : V}
+    {fits : List ℕ → Type 0} (z : Shape) (ts : Terms) (s : State (Unit {0}) (SeatView V))
+    (k : Kept law first gone fits z ts s) where
+  pub kept_sound : Sound z k.core
+  kept_sound = history_sound z ts k.events k.core k.shape k.terms k.history
+
+  module _ (n : ℕ) (v : SeatView V) (at : get_elem? s.views n ≡ some v) where
+    pub in_seats : n < z.seats
+    in_seats = let l = at_less s.views n v at in let f = k.few.1 in omega arith
+
+    pub true_of : v.gone ≡ false → IsTrueOf z k.core n v
+    true_of here = here_case ((view_at k.core n).left ≡ true) (IsTrueOf z k.core n v) v.gone here
+        (k.tells n v at)
+
+    -- the seat's number stands in its view
+    pub number_of : v.gone ≡ false → v.core.seat ≡ n
+    number_of here =
+        ap (λ (u : CoreView). u.seat) (true_of here).core ∙ (kept_sound.seats n in_seats).number
+
+    -- seat 0 is there, by its number
+    pub is_root : v.gone ≡ false → v.core.seat ≡ 0 → n ≡ 0
+    is_root here root = sym (number_of here) ∙ root

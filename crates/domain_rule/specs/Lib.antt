@@ -2,6 +2,7 @@
 pub use Rattle.plain_protocol.specs as plain_protocol
 -- Its own.
 pub mod Views
+pub mod Past
 pub mod Rule
 pub mod Told
 pub mod Opening

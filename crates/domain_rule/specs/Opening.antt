@@ -1,5 +1,5 @@
 -- How a domain comes to its seats, and how a seat leaves it.
-use Rattle.std.specs.Prelude.{ℕ, ◌+◌, ◌==◌, true, false, List, [], ◌++◌, Some, None, if◌then◌else◌}
+use Rattle.std.specs.Prelude.{ℕ, ◌+◌, ◌==◌, Bool, true, false, List, [], ◌∷◌, ◌++◌, Some, None, if◌then◌else◌}
 use Rattle.plain_protocol.specs.plain_state.declared.slot.SlotId.{SlotId}
 use Rattle.plain_protocol.specs.plain_state.State.{empty}
 use Rattle.plain_protocol.specs.Owns.{Object, has_slot}
@@ -16,10 +16,23 @@ use Rattle.domain_rule.specs.declared.view.Known.{Known}
 use Rattle.domain_rule.specs.declared.view.SeatView.{SeatView}
 use Rattle.domain_rule.specs.Views.{known_of, object_in, objects_of, quota_at, whole_of}
 
--- what two seats know of the object of one slot, which is one: were its lives different, its payload would be none
+-- whether two payloads are one
+unfoldable pub same_words : List ℕ → List ℕ → Bool
+same_words [] [] = true
+same_words [] (y ∷ ys) = false
+same_words (x ∷ xs) [] = false
+same_words (x ∷ xs) (y ∷ ys) = if x == y then same_words xs ys else false
+
+-- What two seats know of the object of one slot, which is one: were its lives or its payloads
+-- different, its payload would be none.
 abbrev pub same_object : Object → Object → Object
 same_object mine other =
-    record mine { payload = if mine.life == other.life then mine.payload else [] }
+    record mine {
+      payload =
+          if mine.life == other.life
+          then (if same_words mine.payload other.payload then mine.payload else [])
+          else [];
+    }
 
 module _ {V : Type 0} where
   -- the view of seat n as it is opened; a domain of one seat begins with a seat that is alone
@@ -32,6 +45,7 @@ module _ {V : Type 0} where
     opened = 1;
     left_adds = 0;
     left_makes = 0;
+    past = [];
     gone = false;
     client = first n;
   }
@@ -78,6 +92,7 @@ module _ {V : Type 0} where
     opened = 0;
     left_adds = 0;
     left_makes = 0;
+    past = [];
     gone = true;
     client = gone;
   }

@@ -7,17 +7,20 @@ use Rattle.core_law.specs.core_events.Views.{Terms}
 use Rattle.core_law.specs.core_events.Runs.{AreTerms, Core, History, IsShape}
 use Rattle.core_law.specs.core_events.Shows.{shows}
 use Rattle.domain_rule.specs.declared.view.SeatView.{SeatView}
+use Rattle.domain_rule.specs.Past.{GoesOnFrom}
 use Rattle.domain_rule.specs.Rule.{IsTrueOf}
 use Rattle.domain_rule.specs.Views.{IsAlone}
 
 module _ {V : Type 0} (fits : List ℕ → Type 0) where
-  -- a state that events reach, of which all that the view says is so, and that has w in word i
+  -- A state that events reach, which go on from those that the view tells. All that the view says is
+  -- so of it, and it has w in word i.
   pub record FoundIn (z : Shape) (ts : Terms) (v : SeatView V) (i w : ℕ) : Type 0 where
     pub shape : IsShape z
     pub terms : AreTerms z ts
     pub events : List Event
     pub core : Core
     pub history : History z ts events core
+    pub since : GoesOnFrom v.past events
     pub fit : AllFit fits (shows z core)
     pub says : IsTrueOf z core v.core.seat v
     pub word : w ≡ slice_index core.words i

@@ -23,6 +23,7 @@ use Rattle.core_law.specs.core_events.Shows.{show_seat, shows}
 use Rattle.core_law.specs.core_events.Views.{first_view}
 use Rattle.domain_rule.specs.declared.view.Whole.{Whole}
 use Rattle.domain_rule.specs.declared.view.SeatView.{SeatView}
+use Rattle.domain_rule.specs.Past.{GoesOnFrom}
 use Rattle.domain_rule.specs.Views.{Stands, core_in, object_in, quota_at}
 
 -- every seat but seat 0 has left
@@ -52,14 +53,19 @@ module _ {V : Type 0} where
   abbrev pub Tells : Shape → Core → ℕ → SeatView V → Type 0
   Tells z c n v = MatchBool v.gone ((view_at c n).left ≡ true) (IsTrueOf z c n v)
 
+  -- a seat that is here hasn't left, and one that is gone has the last view of the client's
+  abbrev pub IsHereOrGone : V → SeatView V → Type 0
+  IsHereOrGone gone v = (v.gone ≡ false → v.core.left ≡ false) × (v.gone ≡ true → v.client ≡ gone)
+
   -- the client's views of all seats: the first ones of those that are still to be opened
   abbrev pub clients : (ℕ → V) → ℕ → List (SeatView V) → List V
   clients first seats views =
       map (λ v. v.client) views
       ++ map first (range_with_len (length views) (seats - length views))
 
-  pub record Kept (law : Plain → List V → Type 0) (first : ℕ → V) (fits : List ℕ → Type 0)
-      (z : Shape) (ts : Terms) (s : State (Unit {0}) (SeatView V)) : Type 0 where
+  pub record Kept (law : Plain → List V → Type 0) (first : ℕ → V) (gone : V)
+      (fits : List ℕ → Type 0) (z : Shape) (ts : Terms) (s : State (Unit {0}) (SeatView V))
+      : Type 0 where
     pub shape : IsShape z
     pub terms : AreTerms z ts
     pub events : List Event
@@ -69,6 +75,9 @@ module _ {V : Type 0} where
     pub few : (1 ≤ length s.views) × (length s.views ≤ z.seats)
     pub tells :
         (n : ℕ) (v : SeatView V) → get_elem? s.views n ≡ some v → Tells z core n v
+    pub pasts :
+        (n : ℕ) (v : SeatView V) → get_elem? s.views n ≡ some v → GoesOnFrom v.past events
+    pub left : (n : ℕ) (v : SeatView V) → get_elem? s.views n ≡ some v → IsHereOrGone gone v
     pub root :
         (v : SeatView V) → get_elem? s.views 0 ≡ some v
         → (v.gone ≡ false) × (v.opened ≡ length s.views)

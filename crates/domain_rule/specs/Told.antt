@@ -24,6 +24,7 @@ use Rattle.core_law.specs.core_events.ShownSteps.{is_ripe_field, shown_act, show
 use Rattle.core_law.specs.core_events.Steps.{moved}
 use Rattle.domain_rule.specs.declared.view.Whole.{Whole}
 use Rattle.domain_rule.specs.declared.view.SeatView.{SeatView}
+use Rattle.domain_rule.specs.Past.{GoesOnFrom}
 use Rattle.domain_rule.specs.Rule.{IsTrueOf}
 use Rattle.domain_rule.specs.Views.{HasCleared, without_fields, core_in, whole_of, object_in, own_of}
 
@@ -75,7 +76,8 @@ module _ {V : Type 0} where
       option_map (λ all. whole_of (after z (core_in all) v.core.seat a)) v.whole
 
   -- The seat has made a step that found w. `next` and `allows` are the deed's. What its view tells
-  -- is so before the step and after it, and so all payloads fit.
+  -- is so before the step and after it, and so all payloads fit. The step's history goes on from all
+  -- that had happened once the seat had made its last step before this one.
   pub record Told (fits : List ℕ → Type 0) (z : Shape) (ts : Terms)
       (next : OwnPart → OwnPart → V → PlainAct → ℕ → V)
       (allows : Plain → Plain → ℕ → V → V → Type 0) (a : Act) (v : SeatView V) (w : ℕ)
@@ -98,5 +100,7 @@ module _ {V : Type 0} where
     pub happened :
         Happened z ts v.core.seat v.core a w
         (λ p q. AllFit fits p × AllFit fits q × allows p q v.core.seat v.client v'.client)
+    pub since : GoesOnFrom v.past happened.events
+    pub past : v'.past ≡ record { seat = v.core.seat; act = a } ∷ happened.events
     pub said : IsTrueOf z happened.before v.core.seat v
     pub says : IsTrueOf z (after z happened.before v.core.seat a) v.core.seat v'

@@ -25,7 +25,7 @@ pub struct DomainRule<P> {
 
 impl<P: Protocol> TableRule<(), SeatView<P::View>, Charter<P>> for DomainRule<P> {
     ghost holds = { λ key.
-        Kept (P.law key.protocol) (P.first key.protocol) P.Kind.fits key.shape
+        Kept (P.law key.protocol) (P.first key.protocol) P.gone P.Kind.fits key.shape
         (record { quotas = key.quotas.items; grants = key.grants.items }) };
 
     ghost first = { λ key. first_of (P.first key.protocol) key.shape

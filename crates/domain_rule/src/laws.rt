@@ -21,7 +21,7 @@ pub fn step_keeps<P: Protocol, D: Deed<P>>()
         → me.0.gone ≡ false → KnowsAll me.0 → IsOwn a me.0 → May z a me.0.core
         → FitsStart P.Kind.fits a me.0
         → ((w : ℕ) → D.ready deed it (own_of me.0) me.0.client (shown_act z a w me.0.core))
-        → Allows (Kept (P.law it) (P.first it) P.Kind.fits z ts) slots id me
+        → Allows (Kept (P.law it) (P.first it) P.gone P.Kind.fits z ts) slots id me
         (place z a me.0.core) (next a me.0.core)
         (λ w m. Told P.Kind.fits z ts (D.next deed it) (D.allows deed it) a me.0 w m.0 × (m.1 ≡ me.1)) }
 {}

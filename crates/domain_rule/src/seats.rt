@@ -22,7 +22,7 @@ use plain_protocol::Protocol;
 /// The rule holds of a table with the first words, and of its first seat.
 pub fn opening_keeps<P: Protocol>()
     ensures { (it : P) (z : Shape) (ts : Terms) → IsShape z → AreTerms z ts
-        → Kept (P.law it) (P.first it) P.Kind.fits z ts
+        → Kept (P.law it) (P.first it) P.gone P.Kind.fits z ts
         (opening (first_words z) [] (first_of (P.first it) z ts)) }
 {}
 
@@ -30,7 +30,7 @@ pub fn opening_keeps<P: Protocol>()
 pub fn split_keeps<P: Protocol>()
     ensures { (it : P) (z : Shape) (ts : Terms) (id : ℕ) (v : SeatView P.View)
         → v.gone ≡ false → v.core.seat ≡ 0 → v.opened < z.seats
-        → Splits (Kept (P.law it) (P.first it) P.Kind.fits z ts) id v (opened_more v)
+        → Splits (Kept (P.law it) (P.first it) P.gone P.Kind.fits z ts) id v (opened_more v)
         (opened_view (P.first it) z ts v.opened) }
 {}
 
@@ -39,7 +39,7 @@ pub fn leave_keeps<P: Protocol>()
     ensures { (it : P) (z : Shape) (ts : Terms) (id other : ℕ) (v w : SeatView P.View)
         → v.gone ≡ false → w.gone ≡ false → v.core.seat ≡ 0
         → CanLeave v.core → CanLeave w.core
-        → Joins (Kept (P.law it) (P.first it) P.Kind.fits z ts) id v other w
+        → Joins (Kept (P.law it) (P.first it) P.gone P.Kind.fits z ts) id v other w
         (joined_view (P.joined it) v w) (gone_view P.gone) }
 {}
 
@@ -48,7 +48,7 @@ pub fn leave_keeps<P: Protocol>()
 pub fn reading_keeps<P: Protocol>()
     ensures { (it : P) (z : Shape) (ts : Terms) (slots id word : ℕ)
         (me : Me (Unit {0}) (SeatView P.View)) → me.0.gone ≡ false
-        → Allows (Kept (P.law it) (P.first it) P.Kind.fits z ts) slots id me word (λ w. w)
+        → Allows (Kept (P.law it) (P.first it) P.gone P.Kind.fits z ts) slots id me word (λ w. w)
         (λ w m. HasRead P.Kind.fits z ts word w me.0 m.0 × (m.1 ≡ me.1)) }
 {}
 

@@ -1,5 +1,5 @@
 //! What a seat of a domain knows, as data that stands in contracts alone.
-use core_law::{CoreView, EventPlace};
+use core_law::{CoreView, Event, EventPlace};
 use std::collections::LinkedList;
 
 /// What stays of an object while a seat has its slot.
@@ -30,6 +30,8 @@ pub struct SeatView<W> {
     /// At seat 0: the adds and the makes that the seats which left had used.
     pub left_adds: u64,
     pub left_makes: u64,
+    /// What had happened once it had made its last step, by all seats, the latest event first.
+    pub past: LinkedList<Event>,
     /// It has left, and nothing else is told of it.
     pub gone: bool,
     /// What the client of the domain keeps with the seat.

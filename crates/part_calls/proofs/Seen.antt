@@ -119,6 +119,8 @@ module _ {P Q V W : Type 0} (fits : List ℕ → Type 0) (part : P → Q) (seen 
             t.happened.fact.2,
       );
     };
+    since = t.since;
+    past = t.past;
     said = true_seen seen z t.happened.before v.core.seat v t.said;
     says = true_seen seen z (after z t.happened.before v.core.seat a) v.core.seat v' t.says;
   }

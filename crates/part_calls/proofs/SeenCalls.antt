@@ -49,6 +49,13 @@ module _ {P Q V W : Type 0} (fits : List ℕ → Type 0) (part : P → Q) (seen 
     walks = walks_seen fits part seen d (same_seen seen) ms old new g.walks;
     rest = g.rest;
     client = ap seen g.client;
+    beside = record {
+      cleared = g.beside.cleared;
+      opened = g.beside.opened;
+      left_adds = g.beside.left_adds;
+      left_makes = g.beside.left_makes;
+    };
+    trail = g.trail;
   }
 
   collects_seen : (old new : SeatState V) (work : Work) → Collects fits d old new work
@@ -64,6 +71,7 @@ module _ {P Q V W : Type 0} (fits : List ℕ → Type 0) (part : P → Q) (seen 
     owes_nothing = c.owes_nothing;
     retired = c.retired;
     few = c.few;
+    moves = c.moves;
   }
 
   collected_seen : (old new : SeatState V) → Collected fits d old new

@@ -21,6 +21,7 @@ view_seen seen v = record {
   opened = v.opened;
   left_adds = v.left_adds;
   left_makes = v.left_makes;
+  past = v.past;
   gone = v.gone;
   client = seen v.client;
 }

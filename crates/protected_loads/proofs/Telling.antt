@@ -101,6 +101,8 @@ module _ {V : Type 0} {fits : List ℕ → Type 0} {z : Shape} {ts : Terms}
           found = h.found;
           fact = (h.fact.0, h.fact.1, allowed);
         };
+        since = told.since;
+        past = told.past;
         said = told.said;
         says = told.says;
       }

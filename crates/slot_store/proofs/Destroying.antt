@@ -22,6 +22,7 @@ use Rattle.retiring_stores.specs.control_word.Resting.{IsAtRest}
 use Rattle.retiring_stores.proofs.Below.control_word_Becoming.{calling, rests_on}
 use Rattle.retiring_stores.proofs.Below.control_word_Following.{give_keeps}
 use Rattle.slot_store.specs.Reaping.{Destroys, KnowsBoth}
+use Rattle.slot_store.proofs.DestroyedFirst.{destroyed_first}
 use Rattle.slot_store.proofs.Passing.{has_listed, listed_has}
 
 not_last : (b : Bool) → (if b then outcome.Last else outcome.Left) ≢ outcome.Last → b ≡ false
@@ -44,6 +45,8 @@ module _ {P V : Type 0} {fits : List ℕ → Type 0} (d : DomainState P) (s : Sl
           destroys = subst (λ (x : Outcome).
               Steps fits d same_view IsSameView (act.Destroy s) old new x) is step;
           frees = refl;
+          first = destroyed_first s (subst (λ (x : Outcome).
+              Steps fits d same_view IsSameView (act.Destroy s) old new x) is step).told;
         },
         ap rest_of step.told.core,
         step.told.client,
@@ -72,6 +75,8 @@ module _ {P V : Type 0} {fits : List ℕ → Type 0} (d : DomainState P) (s : Sl
           Steps fits d same_view IsSameView (act.Destroy s) old mid x) is step;
       frees = subst (λ (x : Outcome). Steps fits d same_view IsSameView act.Free mid new x)
           free.answers free;
+      first = destroyed_first s (subst (λ (x : Outcome).
+          Steps fits d same_view IsSameView (act.Destroy s) old mid x) is step).told;
     },
     ap rest_of free.told.core ∙ ap rest_of step.told.core,
     free.told.client ∙ step.told.client,

@@ -11,6 +11,7 @@ pub mod Beginning
 pub mod Starting
 pub mod Passing
 pub mod SeeingAll
+pub mod DestroyedFirst
 pub mod Destroying
 pub mod Ripening
 pub mod Reaps

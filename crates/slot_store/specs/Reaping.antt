@@ -1,5 +1,5 @@
 -- What a seat does with a slot that it is to destroy.
-use Rattle.std.specs.Prelude.{ℕ, ◌≡◌, ◌⊎◌, ◌<◌, List, [], ◌∷◌, ◌++◌, slice_index, Bool, Option, None, Some, if◌then◌else◌}
+use Rattle.std.specs.Prelude.{ℕ, ◌≡◌, ◌⊎◌, ◌<◌, ◌+◌, List, [], ◌∷◌, ◌++◌, slice_index, Bool, Option, None, Some, if◌then◌else◌}
 use Rattle.std.specs.Bool.{MatchBool}
 use Rattle.protocol_pairs.specs.plain_state.Limits.{words_of_payload}
 use Rattle.protocol_pairs.specs.plain_state.declared.act.EventPlace.{EventPlace}
@@ -15,6 +15,7 @@ use Rattle.claim_law.specs.core_events.declared.view.Move.{Move}
 use Rattle.claim_law.specs.core_events.Shows.{show_seat}
 use Rattle.claim_law.specs.core_events.Steps.{HasRoom}
 use Rattle.claim_law.specs.core_events.Words.{each_from}
+use Rattle.claim_law.specs.core_promises.Destroyed.{destroyed}
 use Rattle.retiring_stores.specs.domain_rule.Views.{object_in}
 use Rattle.retiring_stores.specs.acquire_retire.Calls.{IsSameView, Steps, same_view}
 use Rattle.retiring_stores.specs.acquire_retire.Collecting.{move, rest_of}
@@ -63,7 +64,8 @@ module _ {P V : Type 0} (fits : List ℕ → Type 0) (d : DomainState P) where
     pub swaps : Swaps fits d same_view IsSameView p None held old new
     pub cleared : new.view.cleared ≡ p ∷ old.view.cleared
 
-  -- it has destroyed s, and where that was the last reference it has given the slot back
+  -- It has destroyed s, and where that was the last reference it has given the slot back. The life that it knew of is
+  -- destroyed by this step first: before it, the slot was destroyed once for each earlier life.
   pub record Destroys (s : SlotId) (old new : SeatState V) : Type 0 where
     pub mid : SeatState V
     pub last : Bool
@@ -73,6 +75,7 @@ module _ {P V : Type 0} (fits : List ℕ → Type 0) (d : DomainState P) where
     pub frees :
         MatchBool last (Steps fits d same_view IsSameView act.Free mid new outcome.Plain)
         (new ≡ mid)
+    pub first : destroyed s destroys.told.happened.events + 1 ≡ (object_in old.view s).life
 
   -- The seat has collected, and nothing is ripe: each slot that was dying was announced for disposal
   -- by one of the words that it read.

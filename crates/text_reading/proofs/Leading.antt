@@ -79,6 +79,8 @@ module _ {P V : Type 0} {fits : List ℕ → Type 0} (d : DomainState P) (place 
             found = h.found;
             fact = (h.fact.0, h.fact.1, record { null = λ is. refl; other = λ is. refl });
           };
+          since = t.since;
+          past = t.past;
           said = record {
             core = t.said.core;
             objects = t.said.objects;

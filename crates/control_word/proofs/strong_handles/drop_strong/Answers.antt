@@ -1,4 +1,4 @@
-use Rattle.control_word.proofs.Dropping.{drop_finished, drop_left, drop_taken, drops_notes, drops_room}
+use Rattle.control_word.proofs.Dropping.{drop_finished, drop_left, drop_taken, drops_notes, drops_owned, drops_room}
 use Rattle.control_word.proofs.strong_handles.drop_strong.Goals as goal
 
 pub returns-in-Help : goal.returns-in-Help
@@ -9,6 +9,8 @@ returns-in-Help g c =
     c.finish.ensures c.in-Help.is c.take.ensures in
     record {
       dropped = r.0;
+      others = drops_owned c.args.domain.now c.args.handle.slot c.args.seat.now c.take.new.seat r.0
+          c.requires.owned;
       client = r.1;
       notes = drops_notes c.args.domain.now c.args.handle.slot c.args.seat.now c.take.new.seat r.0;
       objects = r.2;
@@ -24,6 +26,8 @@ returns-in_default-finish g c =
     c.in_default-finish.not-Help in
     record {
       dropped = r.0;
+      others = drops_owned c.args.domain.now c.args.handle.slot c.args.seat.now c.finish.new.seat r.0
+          c.requires.owned;
       client = r.1;
       notes = drops_notes c.args.domain.now c.args.handle.slot c.args.seat.now c.finish.new.seat r.0;
       objects = r.2;
@@ -38,6 +42,8 @@ returns-in_default g c =
     c.in_default.not-Zeroed in
     record {
       dropped = r.0;
+      others = drops_owned c.args.domain.now c.args.handle.slot c.args.seat.now c.drop.new.seat r.0
+          c.requires.owned;
       client = r.1;
       notes = drops_notes c.args.domain.now c.args.handle.slot c.args.seat.now c.drop.new.seat r.0;
       objects = r.2;

@@ -1,8 +1,8 @@
-use Rattle.std.proofs.Common.{refl, subst, arith}
+use Rattle.std.proofs.Common.{refl, ◌∙◌, subst, arith}
 use Rattle.queue_protocol.specs.plain_state.declared.slot.SlotId.{SlotId}
 use Rattle.part_calls.specs.Parts.{as_part, seen_by}
 use Rattle.linked_queue.specs.Pushes.{Advances, Links}
-use Rattle.linked_queue.proofs.Leavings.{drop_leaves, drop_spent, leaves_same}
+use Rattle.linked_queue.proofs.Leavings.{drop_leaves, drop_makes, drop_spent, leaves_same}
 use Rattle.linked_queue.proofs.Linkings.{then_gives}
 use Rattle.linked_queue.proofs.Pushings.{gives_both, l_there}
 use Rattle.linked_queue.specs.PushLosses.{LosesLast, LosesNode}
@@ -28,6 +28,12 @@ returns-in-Ok-clause-leaves g c =
     c.advance.ensures.leaves
     (drop_leaves c.in-Ok.last.slot late new c.drop_strong.ensures.dropped
     c.drop_strong.ensures.objects)
+
+pub returns-in-Ok-clause-makes : goal.returns-in-Ok-clause-makes
+returns-in-Ok-clause-makes g c =
+    drop_makes c.in-Ok.last.slot (seen_by g.P.Part.seen c.advance.new.seat)
+    (seen_by g.P.Part.seen c.drop_strong.new.seat) c.drop_strong.ensures.dropped
+    ∙ (c.advance.ensures.makes ∙ c.in-Ok.ensures.makes)
 
 pub returns-in-Err-clause-leaves : goal.returns-in-Err-clause-leaves
 returns-in-Err-clause-leaves g c =

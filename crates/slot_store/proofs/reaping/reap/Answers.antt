@@ -11,6 +11,14 @@ read_all-payload-requires-clause-dying g c =
     (c.clear.ensures.passes.dying c.in-Some.slot
     (rw c.in-Some.is at c.ripe_slot.ensures.dying)))
 
+pub destroy-requires-clause-ripe : goal.destroy-requires-clause-ripe
+destroy-requires-clause-ripe g c =
+    c.read_all-payload.ensures.passes.ripe c.in-Some.slot
+    (c.clear-3.ensures.passes.ripe c.in-Some.slot
+    (c.clear-2.ensures.passes.ripe c.in-Some.slot
+    (c.clear.ensures.passes.ripe c.in-Some.slot
+    (rw c.in-Some.is at c.ripe_slot.ensures.finds).1)))
+
 pub returns-clause-reaps : goal.returns-clause-reaps
 returns-clause-reaps g c =
     reaps c.args.domain.now c.args.seat.now c.ripe_slot.new.seat c.clear.new.seat

@@ -8,7 +8,7 @@ of_words-requires g c =
     let quotas : c.in_ok-to_vec.field-0.items ≡ c.args.quotas.now = search rules in
     let grants : c.in_ok-to_vec-2.field-0.items ≡ c.args.grants.now = search rules in
     let are : c.as_slice.result.now ≡ first_words c.args.shape = search rules in
-    begun_kept (g.P.Protocol.law c.args.protocol) (g.P.Protocol.first c.args.protocol)
+    begun_kept (g.P.Protocol.law c.args.protocol) (g.P.Protocol.first c.args.protocol) g.P.Protocol.gone
     g.P.Kind.PayloadKind.fits c.args.shape
     (record { quotas = c.args.quotas.now; grants = c.args.grants.now }) _ _ c.requires.shape
     c.requires.terms (same_terms _ _ _ _ quotas grants) are (g.P.Protocol.start c.args.protocol)

@@ -10,6 +10,6 @@ free-requires g c k low =
 pub returns : goal.returns
 returns g c =
     let f = c.close_with.ensures.values.2 in
-    closed_last g.P.Protocol.law g.P.Protocol.first g.P.Kind.PayloadKind.fits c.args.self _
-    c.self.view_is c.root.inside.seat _ c.root.view_is c.root.invariant.seated c.requires.alone f.0
+    closed_last g.P.Protocol.law g.P.Protocol.first g.P.Protocol.gone g.P.Kind.PayloadKind.fits
+    c.args.self _ c.self.view_is c.root.inside.seat _ c.root.view_is c.root.invariant.seated c.requires.alone f.0
     f.1

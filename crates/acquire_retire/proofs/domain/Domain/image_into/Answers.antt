@@ -3,7 +3,7 @@ use Rattle.plain_state.specs.Images.{IsImage}
 use Rattle.plain_state.specs.State.{Plain}
 use Rattle.acquire_retire.specs.Wholes.{IsWholeImage, known_state}
 use Rattle.acquire_retire.proofs.Images.{same_state}
-use Rattle.acquire_retire.proofs.Wholes.{then_ok, whole_image}
+use Rattle.acquire_retire.proofs.Wholes.{then_ok, whole_deferred, whole_image}
 use Rattle.acquire_retire.proofs.domain.Domain.image_into.Goals as goal
 
 pub returns-clause-image : goal.returns-clause-image
@@ -19,3 +19,8 @@ returns-clause-image g c =
     (subst (λ (p : Plain). IsImage p heap)
     (same_state seat c.learn.new.seat c.learn.ensures.stays d) image))
     c.heap_image.ensures.image
+
+pub returns-clause-deferred : goal.returns-clause-deferred
+returns-clause-deferred g c =
+    whole_deferred c.args.self.now g.P.Kind.PayloadKind.fits c.seat.inside.seat c.args.seat.now
+    c.seat.view_is c.learn.ensures.knows

@@ -1,5 +1,5 @@
 use Rattle.std.proofs.Common.{◌+◌, ◌^◌, ◌<◌, rules}
-use Rattle.acquire_retire.proofs.Leavings.{dying_fit, entries_fit, left_fits, may_join, ripe_fit, taken_seat}
+use Rattle.acquire_retire.proofs.Leavings.{dying_fit, entries_fit, left_fits, may_join, ripe_fit, taken_seat, took_over}
 use Rattle.acquire_retire.proofs.domain.Domain.leave.Goals as goal
 
 pub absorb-requires : goal.absorb-requires
@@ -44,3 +44,9 @@ invariant_of-root g c =
     taken_seat c.args.self.now _ _ _ _ _ may c.join.ensures _ _ _ _ _ c.root.invariant.stores
     c.seat.invariant.stores c.root.invariant.rooms _ _ c.absorb.ensures.taken
     c.absorb-2.ensures.taken
+
+pub returns : goal.returns
+returns g c =
+    took_over c.args.self.now g.P.Kind.PayloadKind.fits
+    (g.P.Protocol.joined c.args.self.now.protocol) c.root.inside.seat c.seat.inside.seat
+    c.join.new.root c.args.root.now c.args.seat c.root.view_is c.seat.view_is c.join.ensures

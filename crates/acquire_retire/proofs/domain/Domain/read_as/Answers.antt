@@ -2,7 +2,7 @@ use Rattle.acquire_retire.proofs.Knowing.{read_requires}
 use Rattle.acquire_retire.proofs.domain.Domain.read_as.Goals as goal
 
 pub load-requires : goal.load-requires
-load-requires g c = read_requires g.P.Protocol.law g.P.Protocol.first g.P.Kind.PayloadKind.fits
+load-requires g c = read_requires g.P.Protocol.law g.P.Protocol.first g.P.Protocol.gone g.P.Kind.PayloadKind.fits
     c.args.self.now g.B.Site.site c.requires.site c.args.seat.now c.args.word c.requires.table
     c.requires.here c.requires.word _ c.self.view_is _ c.self.invariant
 
