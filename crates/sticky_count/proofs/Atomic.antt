@@ -1,5 +1,5 @@
 -- A step on the table lengthens the history, so the rule holds after it.
-use Rattle.std.proofs.Common.{◌≡◌, ℕ, ◌+◌, ◌-◌, ◌*◌, ◌%◌, ◌^◌, ◌<◌, ◌≤◌, List, [], ◌∷◌, set, get_or, length, length-set, get_or-set_same, replicate, bit_and, ◌==◌, sym, ap, ◌∙◌, subst, refl, arith}
+use Rattle.std.proofs.Common.{◌≡◌, ℕ, ◌+◌, ◌-◌, ◌*◌, ◌%◌, ◌^◌, ◌<◌, ◌≤◌, List, [], ◌∷◌, ◌++◌, set, get_or, length, length-set, get_or-set_same, replicate, bit_and, ◌==◌, sym, ap, ◌∙◌, subst, refl, arith}
 use Rattle.std.proofs.lemmas.Bool.Decides.{nat_tests}
 use prog.Atomic.{either}
 use mathlib.Core.Option.{some}
@@ -11,16 +11,18 @@ use Rattle.std.proofs.lemmas.List.Elements.{All-set, All-cons, All-replicate}
 use Rattle.atomic_table.specs.Table.{State, keeps, Allows, Splits, opening}
 use Rattle.sticky_count.specs.declared.view.Act.{Act}
 use Rattle.sticky_count.specs.declared.view.Act.TheVariants as act
+use Rattle.sticky_count.specs.declared.view.Event.{Event}
 use Rattle.sticky_count.specs.declared.view.View.{View}
 use Rattle.sticky_count.specs.declared.view.Knows.{Knows}
 use Rattle.counter_word.specs.Words.{low}
 use Rattle.sticky_count.specs.Views.{fresh, next, moved, May, HasRoom}
-use Rattle.sticky_count.specs.History.{Counter, Event, Enabled, after, run, view_at}
+use Rattle.sticky_count.specs.History.{Counter, Enabled, after, event, run, view_at}
 use Rattle.sticky_count.specs.Sound.{IsSound, adds_in}
-use Rattle.sticky_count.specs.Running.{Kept, Does, Suits, shown, first, stays, split_off, all_views, most_adds}
+use Rattle.sticky_count.specs.Running.{Kept, Does, InHistory, Suits, shown, first, stays, split_off, all_views, most_adds}
 use Rattle.counter_word.proofs.Bits.{cleared}
 use Rattle.sticky_count.proofs.Law.{sound, event_suits}
 use Rattle.sticky_count.proofs.Padded.{view_there, set_view, split_view}
+use Rattle.sticky_count.proofs.Pasts.{AllKept, stepped, kept_step, kept_split, kept_first, step_history, known_history}
 
 -- the word after the atomic operation of a step
 abbrev pub atomic : Act → ℕ → ℕ
@@ -93,9 +95,6 @@ on_step seats id a k s kept at may =
       room = has_room a (shown s).word (adds_in (shown s)) (running seats s kept).few (few_in seats s kept);
     }
 
-abbrev stepped : ℕ → Act → Knows → State (Unit {0}) Knows → Knows
-stepped id a k s = record k { view = moved a (get_or s.words 0 0) k.view }
-
 -- what the law tells of the step
 suits_step : (seats id : ℕ) (a : Act) (k : Knows) (s : State (Unit {0}) Knows) → Kept seats s → get_elem? s.views id ≡ some k
     → May a k.view → Suits a (get_or s.words 0 0)
@@ -105,9 +104,9 @@ suits_step seats id a k s kept at may =
     subst (λ (c : Counter). Suits a c.word) (sym kept.is) (event_suits seats kept.events e (kept.possible, on))
 
 -- the rule holds after the step
-keeps_step : (seats id : ℕ) (a : Act) (k : Knows) (s s' : State (Unit {0}) Knows) → Kept seats s → get_elem? s.views id ≡ some k
+keeps_step : (seats id : ℕ) (a : Act) (k : Knows) (s s' : State (Unit {0}) Knows) (kept : Kept seats s) → get_elem? s.views id ≡ some k
     → get_or s.words 0 0 < 2 ^ 64 → May a k.view → HasAdds a k.view
-    → s'.words ≡ set s.words 0 (atomic a (get_or s.words 0 0)) → s'.views ≡ set s.views id (stepped id a k s) → Kept seats s'
+    → s'.words ≡ set s.words 0 (atomic a (get_or s.words 0 0)) → s'.views ≡ set s.views id (stepped id a k (get_or s.words 0 0) kept.events) → Kept seats s'
 keeps_step seats id a k s s' kept at fits may left words views =
     let w : ℕ = get_or s.words 0 0 in
     let e : Event = record { seat = id; act = a } in
@@ -118,7 +117,7 @@ keeps_step seats id a k s s' kept at fits may left words views =
     ∙ get_or-set_same s.words 0 (atomic a w) 0 (omega (arith, kept.one_word))
     ∙ lands a w fits (suits_step seats id a k s kept at may) in
     let seen : all_views s'.views ≡ set (all_views s.views) id (moved a w k.view) =
-    ap all_views views ∙ set_view s.views id k (stepped id a k s) at refl in
+    ap all_views views ∙ set_view s.views id k (stepped id a k w kept.events) at refl in
     let mine : set (all_views s.views) id (moved a w k.view) ≡ set (all_views s.views) id (moved a w (view_at (shown s) id)) =
     ap (λ (v : View). set (all_views s.views) id (moved a w v)) (sym t.1) in
     let few : (view_at (shown s) id).adds ≤ most_adds = kept.few_adds id (fresh 0) t.0 in
@@ -131,15 +130,35 @@ keeps_step seats id a k s s' kept at fits may left words views =
       events = e ∷ kept.events;
       possible = (kept.possible, subst (λ (c : Counter). Enabled c e) kept.is on);
       is = (λ i. record { word = word i; seats = (seen ∙ mine) i }) ∙ ap (after e) kept.is;
+      each = subst (λ (ks : List Knows). AllKept seats (length ks) (e ∷ kept.events) ks) (sym views)
+          (kept_step seats id kept.events a k w s.views kept.each at);
+    }
+
+-- the history up to the step, as its seat knows it
+history_before : (seats id : ℕ) (k : Knows) (s : State (Unit {0}) Knows) (kept : Kept seats s) → get_elem? s.views id ≡ some k
+    → InHistory seats id kept.events k.view
+history_before seats id k s kept at =
+    let t = view_there s.views id k at in
+    record {
+      possible = kept.possible;
+      there = subst (λ (c : Counter). id < length c.seats) kept.is t.0;
+      view = sym t.1 ∙ ap (λ (c : Counter). view_at c id) kept.is;
     }
 
 pub allows : (seats slots id : ℕ) (a : Act) (k : Knows) (cs : List (ℕ × Unit {0})) → May a k.view → HasAdds a k.view
     → Allows (Kept seats) slots id (k, cs) 0 (atomic a) (λ n m. Does a k n m.0)
 allows seats slots id a k cs may left s kept _ at fits =
     let t = view_there s.views id k at in
-    let k' : Knows = stepped id a k s in
+    let w : ℕ = get_or s.words 0 0 in
+    let k' : Knows = stepped id a k w kept.events in
     let s' : State (Unit {0}) Knows = record { words = set s.words 0 (atomic a (get_or s.words 0 0)); homes = s.homes; views = set s.views id k' } in
     let kept' : Kept seats s' = keeps_step seats id a k s s' kept at fits may left refl refl in
+    let mine_of = kept.each id k at in
+    let before = history_before seats id k s kept at in
+    let on = subst (λ (c : Counter). Enabled c (event id a)) kept.is (on_step seats id a k s kept at may) in
+    let word : (run seats kept.events).word ≡ w = ap (λ (c : Counter). c.word) (sym kept.is) in
+    let after_it : InHistory seats id k'.past k'.view = subst (λ (n : ℕ). InHistory seats id k'.past (moved a n k.view)) word
+    (step_history seats id a k.view kept.events before on) in
     let law = running seats s kept in
     let law' = running seats s' kept' in
     let part = get_or-le-sum_by (λ (v : View). v.held) (all_views s.views) id (fresh 0) t.0 in
@@ -156,6 +175,13 @@ allows seats slots id a k cs may left s kept _ at fits =
       kept',
       record {
         view = refl;
+        seat = refl;
+        seats = refl;
+        since = mine_of.past.0;
+        past = λ i. event (sym mine_of.own i) a ∷ mine_of.past.1 i;
+        found = sym word ∙ (λ i. (run (sym mine_of.all i) (mine_of.past.1 i)).word);
+        before = known_history seats id kept.events (mine_of.past.0 ++ k.past) k.view k.seats k.seat mine_of.all mine_of.own mine_of.past.1 before;
+        after = known_history seats id k'.past k'.past k'.view k.seats k.seat mine_of.all mine_of.own refl after_it;
         suits = suits_step seats id a k s kept at may;
         held = omega (arith, law.counts);
         once = omega (arith, law'.one_ender);
@@ -173,6 +199,7 @@ splits seats id k more s kept at =
       events = kept.events;
       possible = kept.possible;
       is = (λ i. record { word = get_or s.words 0 0; seats = same i }) ∙ kept.is;
+      each = kept_split seats id kept.events k s.views kept.each at more;
     }
 
 pub starts : (seats : ℕ) → 1 ≤ seats → seats ≤ 32 → Kept seats (opening (1 ∷ []) [] (first seats))
@@ -190,4 +217,5 @@ starts seats one few =
       events = [];
       possible = tt;
       is = λ i. record { word = 1; seats = same i };
+      each = kept_first seats;
     }

@@ -7,10 +7,11 @@ use mathlib.Core.Logic.{dite}
 use native.Mathlib.Decide.{dec_lt}
 use Rattle.sticky_count.specs.declared.view.Act.{Act}
 use Rattle.sticky_count.specs.declared.view.Act.TheVariants as act
+use Rattle.sticky_count.specs.declared.view.Event.{Event}
 use Rattle.sticky_count.specs.declared.view.View.{View}
 use Rattle.counter_word.specs.Words.{HasZero}
 use Rattle.sticky_count.specs.Views.{fresh, next, moved}
-use Rattle.sticky_count.specs.History.{Counter, Event, Enabled, Possible, after, opened, run, view_at}
+use Rattle.sticky_count.specs.History.{Counter, Enabled, Possible, after, opened, run, view_at}
 use Rattle.sticky_count.specs.Sound.{IsSound}
 use Rattle.sticky_count.specs.Running.{Suits}
 use Rattle.sticky_count.proofs.Sums.{sums, changes, some_finisher, some_helper}

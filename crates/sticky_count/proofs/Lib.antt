@@ -2,6 +2,8 @@ pub mod Sums
 pub mod Steps
 pub mod Law
 pub mod Padded
+pub mod Pasts
 pub mod Atomic
 pub mod Opening
 pub mod Walks
+pub mod Ending

@@ -1,9 +1,12 @@
 -- The seats of a new counter, as they are split off one after another.
-use Rattle.std.proofs.Common.{◌≡◌, ℕ, zero, suc, ◌+◌, ◌-◌, List, [], ◌∷◌, ◌++◌, replicate, add-one, ap, ◌∙◌, refl, arith}
-use Rattle.std.proofs.lemmas.List.{replicate-append-replicate}
+use Rattle.std.proofs.Common.{◌≡◌, ℕ, zero, suc, ◌+◌, ◌-◌, ◌<◌, List, [], ◌∷◌, ◌++◌, map, add-one, sym, ap, ◌∙◌, refl, arith}
+use Rattle.std.specs.List.{range_with_len}
+use Rattle.std.proofs.lemmas.List.{length-replicate, get_or-replicate}
+use Rattle.std.proofs.lemmas.List.FromFn.{map-range_with_len_more}
 use Rattle.atomic_table.specs.Seated.{TableId}
 use Rattle.sticky_count.specs.Views.{fresh}
-use Rattle.sticky_count.specs.Seats.{SeatState, opened_seats}
+use Rattle.sticky_count.specs.Running.{InHistory}
+use Rattle.sticky_count.specs.Seats.{SeatState, opened_seat, opened_seats}
 
 -- the count that a seat begins with: the first one holds one
 abbrev pub count_at : ℕ → ℕ
@@ -13,28 +16,37 @@ count_at (suc n) = 0
 pub count_later : (n : ℕ) → count_at (n + 1) ≡ 0
 count_later n = rw add-one refl
 
-abbrev pub seat_at : TableId → ℕ → ℕ → SeatState
-seat_at counter adds i = record { counter = counter; quota = adds; view = fresh (count_at i) }
+-- seat i of the counter
+abbrev pub seat_at : TableId → ℕ → ℕ → ℕ → SeatState
+seat_at counter seats adds i = opened_seat counter seats adds (count_at i) i
 
 -- the first n seats
-abbrev pub front : TableId → ℕ → ℕ → List SeatState
-front counter adds zero = []
-front counter adds (suc n) =
-    (record { counter = counter; quota = adds; view = fresh 1 })
-    ∷ replicate n (record { counter = counter; quota = adds; view = fresh 0 })
+abbrev pub front : TableId → ℕ → ℕ → ℕ → List SeatState
+front counter seats adds zero = []
+front counter seats adds (suc n) = opened_seat counter seats adds 1 0 ∷ map (opened_seat counter seats adds 0) (range_with_len 1 n)
 
-pub front_push : (counter : TableId) (adds n : ℕ) (s : SeatState) → s ≡ seat_at counter adds n
-    → front counter adds n ++ s ∷ [] ≡ front counter adds (suc n)
-front_push counter adds zero s is = ap (λ (x : SeatState). x ∷ []) is
-front_push counter adds (suc n) s is =
-    let other : SeatState = record { counter = counter; quota = adds; view = fresh 0 } in
-    let one : SeatState = record { counter = counter; quota = adds; view = fresh 1 } in
-    ap (λ (x : SeatState). one ∷ (replicate n other ++ x ∷ [])) is
-    ∙ ap (λ (l : List SeatState). one ∷ l) (replicate-append-replicate n 1 other ∙ ap (λ (m : ℕ). replicate m other) (add-one n))
+pub front_push : (counter : TableId) (seats adds n : ℕ) (s : SeatState) → s ≡ seat_at counter seats adds n
+    → front counter seats adds n ++ s ∷ [] ≡ front counter seats adds (suc n)
+front_push counter seats adds zero s is = ap (λ (x : SeatState). x ∷ []) is
+front_push counter seats adds (suc n) s is =
+    let one : SeatState = opened_seat counter seats adds 1 0 in
+    let others : List SeatState = map (opened_seat counter seats adds 0) (range_with_len 1 n) in
+    ap (λ (x : SeatState). one ∷ (others ++ x ∷ [])) is
+    ∙ ap (λ (l : List SeatState). one ∷ l) (sym (map-range_with_len_more (opened_seat counter seats adds 0) 1 n (suc n) (omega arith)))
+    ∙ ap (λ (m : ℕ). one ∷ map (opened_seat counter seats adds 0) (range_with_len 1 m)) (add-one n)
 
-pub front_all : (counter : TableId) (seats adds n : ℕ) → suc n ≡ seats → front counter adds (suc n) ≡ opened_seats counter seats adds
+pub front_all : (counter : TableId) (seats adds n : ℕ) → suc n ≡ seats → front counter seats adds (suc n) ≡ opened_seats counter seats adds
 front_all counter seats adds n e =
-    let other : SeatState = record { counter = counter; quota = adds; view = fresh 0 } in
-    let one : SeatState = record { counter = counter; quota = adds; view = fresh 1 } in
     let same : n ≡ seats - 1 = omega arith in
-    ap (λ (m : ℕ). one ∷ replicate m other) same
+    ap (λ (m : ℕ). opened_seat counter seats adds 1 0 ∷ map (opened_seat counter seats adds 0) (range_with_len 1 m)) same
+
+-- the view of each seat of a new counter
+pub opened_history : (seats i : ℕ) → i < seats → InHistory seats i [] (fresh (count_at i))
+opened_history seats zero h = record { possible = tt; there = omega arith; view = refl }
+opened_history seats (suc i) h =
+    let n = length-replicate (seats - 1) (fresh 0) in
+    record {
+      possible = tt;
+      there = omega arith;
+      view = sym (get_or-replicate (seats - 1) i (fresh 0) (fresh 0) (omega arith));
+    }

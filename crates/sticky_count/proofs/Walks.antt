@@ -9,12 +9,15 @@ use Rattle.std.specs.List.{All}
 use Rattle.atomic_table.specs.Seated.{TableId}
 use Rattle.sticky_count.specs.declared.view.Act.{Act}
 use Rattle.sticky_count.specs.declared.view.Act.TheVariants as act
+use Rattle.sticky_count.specs.declared.view.Knows.{Knows}
 use Rattle.sticky_count.specs.declared.view.Move.{Move}
+use Rattle.sticky_count.specs.declared.view.Event.{Event}
 use Rattle.sticky_count.specs.declared.view.View.{View}
 use Rattle.sticky_count.specs.Views.{fresh, noted, moved}
-use Rattle.sticky_count.specs.History.{Event, Possible, moves_of, opened, run, view_at}
-use Rattle.sticky_count.specs.Calls.{walked, Increments, Decrements, Reads}
-use Rattle.sticky_count.specs.Seats.{SeatState, Made}
+use Rattle.sticky_count.specs.History.{Possible, event, moves_of, opened, run, view_at}
+use Rattle.sticky_count.specs.Running.{Does}
+use Rattle.sticky_count.specs.Calls.{move, walked, Increments, Decrements, Reads}
+use Rattle.sticky_count.specs.Seats.{SeatState, Lengthens, Made}
 
 trail_moved : (a : Act) (w : ℕ) (v : View) → (moved a w v).trail ≡ noted a w v.trail
 trail_moved act.Add w v = refl
@@ -31,12 +34,51 @@ trail_walked (m ∷ ms) v =
     ∙ ap (λ (t : List Move). t ++ ms) (trail_moved m.act m.found v)
     ∙ append_assoc v.trail (m ∷ []) ms
 
--- a seat that was old, and now has the view after these steps
-pub makes : (ms : List Move) (t t' : TableId) (q : ℕ) (v v' : View) (old : SeatState)
-    → ◌≡◌ {A = SeatState} (record { counter = t; quota = q; view = v }) old → t' ≡ t → v' ≡ walked ms v
-    → Made ms old (record { counter = t'; quota = q; view = v' })
-makes ms t t' q v v' old was same is = subst (λ (o : SeatState). Made ms o (record { counter = t'; quota = q; view = v' })) was
-    (record { counter = same; quota = refl; view = is; trail = ap (λ (u : View). u.trail) is ∙ trail_walked ms v })
+-- these steps lead from what the table kept of a seat to what it keeps now
+pub record Walk (ms : List Move) (k k' : Knows) : Type 0 where
+  pub seat : k'.seat ≡ k.seat
+  pub seats : k'.seats ≡ k.seats
+  pub past : Lengthens k.seats k.seat ms k.past k'.past
+  pub view : k'.view ≡ walked ms k.view
+
+pub one_step : (a : Act) (w : ℕ) (k k' : Knows) → Does a k w k' → Walk (move a w ∷ []) k k'
+one_step a w k k' d = record { seat = d.seat; seats = d.seats; past = (d.since, d.found, d.past); view = d.view }
+
+-- a step whose word is known
+pub found_as : (a : Act) (w n : ℕ) (k k' : Knows) → w ≡ n → Does a k w k' → Does a k n k'
+found_as a w n k k' e d = subst (λ (m : ℕ). Does a k m k') e d
+
+pub one_more : (a : Act) (w : ℕ) (ms : List Move) (k k' k'' : Knows) → Does a k w k' → Walk ms k' k'' → Walk (move a w ∷ ms) k k''
+one_more a w ms k k' k'' d r = record {
+  seat = r.seat ∙ d.seat;
+  seats = r.seats ∙ d.seats;
+  past = (
+    d.since,
+    d.found,
+    subst (λ (n : ℕ). Lengthens n k.seat ms (event k.seat a ∷ d.since ++ k.past) k''.past) d.seats
+        (subst (λ (n : ℕ). Lengthens k'.seats n ms (event k.seat a ∷ d.since ++ k.past) k''.past) d.seat
+        (subst (λ (l : List Event). Lengthens k'.seats k'.seat ms l k''.past) d.past r.past)),
+  );
+  view = r.view ∙ ap (walked ms) d.view;
+}
+
+-- a seat as callers see it
+abbrev pub state_of : TableId → ℕ → Knows → SeatState
+state_of t q k = record { counter = t; quota = q; seat = k.seat; seats = k.seats; past = k.past; view = k.view }
+
+-- a seat that was old, and has made these steps
+pub makes : (ms : List Move) (t t' : TableId) (q : ℕ) (k k' : Knows) (old : SeatState)
+    → ◌≡◌ {A = SeatState} (state_of t q k) old → t' ≡ t → Walk ms k k' → Made ms old (state_of t' q k')
+makes ms t t' q k k' old was same r = subst (λ (o : SeatState). Made ms o (state_of t' q k')) was
+    (record {
+      counter = same;
+      quota = refl;
+      seat = r.seat;
+      seats = r.seats;
+      past = r.past;
+      view = r.view;
+      trail = ap (λ (u : View). u.trail) r.view ∙ trail_walked ms k.view;
+    })
 
 -- the trail of a seat is its events
 trail_first : (seats i : ℕ) → i < length (opened seats).seats → (view_at (opened seats) i).trail ≡ []

@@ -1,6 +1,7 @@
 -- A counter as plain data, and what a list of events makes of it.
 use Rattle.std.specs.Prelude.{ℕ, ◌-◌, ◌<◌, List, [], ◌∷◌, length, replicate, slice_index_or, slice_set, ◌==◌, if◌then◌else◌}
 use Rattle.sticky_count.specs.declared.view.Act.{Act}
+use Rattle.sticky_count.specs.declared.view.Event.{Event}
 use Rattle.sticky_count.specs.declared.view.Move.{Move}
 use Rattle.sticky_count.specs.declared.view.View.{View}
 use Rattle.sticky_count.specs.Views.{fresh, noted, next, moved, May, HasRoom}
@@ -10,10 +11,8 @@ pub record Counter : Type 0 where
   pub word : ℕ
   pub seats : List View
 
--- a seat makes a step
-pub record Event : Type 0 where
-  pub seat : ℕ
-  pub act : Act
+abbrev pub event : ℕ → Act → Event
+event n a = record { seat = n; act = a }
 
 -- as it is opened: the word is 1, and seat 0 holds that count
 abbrev pub opened : ℕ → Counter

@@ -4,3 +4,4 @@ pub mod Sound
 pub mod Running
 pub mod Calls
 pub mod Seats
+pub mod Ending

@@ -5,7 +5,8 @@ ghost use Rattle.sticky_count.specs.declared.view.Knows.{Knows};
 ghost use Rattle.sticky_count.specs.declared.view.Move.{Move};
 ghost use Rattle.sticky_count.specs.Calls.{Increments, Decrements, Reads};
 ghost use Rattle.counter_word.specs.Words.{HasZero};
-ghost use Rattle.sticky_count.specs.History.{Event, Possible, moves_of, run, view_at};
+ghost use Rattle.sticky_count.specs.declared.view.Event.{Event};
+ghost use Rattle.sticky_count.specs.History.{Possible, moves_of, run, view_at};
 ghost use Rattle.sticky_count.specs.Sound.{IsSound};
 ghost use Rattle.sticky_count.specs.Running.{Kept, Suits, shown};
 

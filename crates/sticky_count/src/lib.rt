@@ -32,4 +32,4 @@ pub use laws::{
 };
 pub use outcome::Spent;
 pub use seat::{Sticky, StickySeat};
-pub use view::{Act, Knows, Move, Phase, View};
+pub use view::{Act, Event, Knows, Move, Phase, View};

@@ -34,7 +34,7 @@ pub struct StickySeat {
     pub(crate) quota: u64,
 }
 
-// A clause sees its counter, its quota and its view.
+// A clause sees its counter, its quota, its number, the history up to its last step, and its view.
 impl Model for StickySeat {
     ghost use Rattle.sticky_count.specs.Seats.{SeatState, IsAtRest};
 
@@ -43,8 +43,11 @@ impl Model for StickySeat {
     ghost view = { λ s. record {
       counter = s.seat.table_id;
       quota = s.quota;
+      seat = s.seat.me.0.seat;
+      seats = s.seat.me.0.seats;
+      past = s.seat.me.0.past;
       view = s.seat.me.0.view;
     } };
 
-    ghost invariant = { λ s. IsAtRest s.seat.me.0.view s.adds s.quota };
+    ghost invariant = { λ s. IsAtRest s.seat.me.0 s.adds s.quota };
 }

@@ -26,6 +26,7 @@ ghost use Rattle.sticky_count.specs.declared.view.Move.{Move};
 ghost use Rattle.sticky_count.specs.Running.{most_adds};
 ghost use Rattle.sticky_count.specs.Calls.{Increments, Decrements, Reads};
 ghost use Rattle.sticky_count.specs.Seats.{SeatState, Made, opened_seats};
+ghost use Rattle.sticky_count.specs.Ending.{HasEndedIt, IsOver};
 
 use crate::outcome::Spent;
 use crate::rule::{Adds, Finishes, Loads, Marks, SplitsOff, Subtracts, Takes};
@@ -84,6 +85,9 @@ impl Sticky {
             seat.new.view.held ≡ seat.old.view.held + (if b then 1 else 0)) }
         ensures adds { IfOk result (λ _. seat.new.view.adds ≡ seat.old.view.adds + 1) }
 
+        // Where it counted nothing, the zero flag stands from then on.
+        ensures over { IfOk result (λ b. b ≡ false → IsOver seat.new) }
+
         // Who holds a count can count on.
         ensures counts { IfOk result (λ b. 0 < seat.old.view.held → b ≡ true) }
     {
@@ -106,6 +110,9 @@ impl Sticky {
         ensures adds { seat.new.view.adds ≡ seat.old.view.adds }
         ensures ended { seat.new.view.ended ≡ seat.old.view.ended + (if result then 1 else 0) }
         ensures once { seat.new.view.ended ≤ 1 }
+
+        // No event of any seat had ended it before, and none does later.
+        ensures ended_it { result ≡ true → HasEndedIt seat.new }
 
         // Who still holds a count has not ended the counter.
         ensures counts { 1 < seat.old.view.held → result ≡ false }
@@ -130,6 +137,9 @@ impl Sticky {
         ensures held { seat.new.view.held ≡ seat.old.view.held }
         ensures adds { seat.new.view.adds ≡ seat.old.view.adds }
         ensures ended { seat.new.view.ended ≡ seat.old.view.ended }
+
+        // Where nothing is counted, the zero flag stands from then on.
+        ensures over { result ≡ 0 → IsOver seat.new }
 
         // The counts of the seat itself are in the value.
         ensures counts { seat.old.view.held ≤ result }

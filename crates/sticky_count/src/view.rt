@@ -24,6 +24,12 @@ pub enum Act {
     Mark,
 }
 
+/// A step of one of the seats, which are numbered from 0 on.
+pub struct Event {
+    pub seat: u64,
+    pub act: Act,
+}
+
 /// A step that was made, and the word that it found.
 pub struct Move {
     pub act: Act,
@@ -43,8 +49,14 @@ pub struct View {
     pub trail: LinkedList<Move>,
 }
 
-/// What the table keeps of a seat: its view, and how many seats may still be split off it.
+/// What the table keeps of a seat.
 pub struct Knows {
     pub view: View,
+    /// Its number, and how many seats the counter has.
+    pub seat: u64,
+    pub seats: u64,
+    /// The events of all seats up to its own last step, newest first.
+    pub past: LinkedList<Event>,
+    /// How many seats may still be split off it.
     pub to_open: u64,
 }
