@@ -15,7 +15,8 @@ use Rattle.cdrc.proofs.Below.protected_loads_Telling.{holds_has}
 use Rattle.cdrc.specs.protocol_pairs.Spared.{HasOneOf}
 use Rattle.example_stack.specs.Views.{View}
 use Rattle.example_stack.specs.Deeds.{OwnsNode, SawIt, SawObject}
-use Rattle.example_stack.specs.Calls.{HasNode, with_found}
+use Rattle.example_stack.specs.Calls.{HasNode}
+use Rattle.example_stack.specs.Leaving.{with_found}
 
 -- what it owns it has
 pub has_owned : (v : CoreView) (s : SlotId) → 0 < times s v.owned → HasSlot (show_seat v) s

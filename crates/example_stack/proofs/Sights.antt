@@ -22,14 +22,19 @@ use Rattle.cdrc.specs.domain_rule.Views.{object_in, own_of}
 use Rattle.cdrc.specs.acquire_retire.Domains.{DomainState}
 use Rattle.cdrc.specs.acquire_retire.Seats.{SeatState}
 use Rattle.cdrc.specs.atomic_shared.Places.{named, strong_place}
+use Rattle.cdrc.specs.control_word.Calls.{with_strong}
+use Rattle.cdrc.specs.control_word.Moves.{KnowsStill}
 use Rattle.cdrc.specs.control_word.Resting.{IsAtRest, IsSpent}
 use Rattle.cdrc.specs.protected_loads.Loads.{Announces, FindsNull, Misses}
-use Rattle.cdrc.specs.protected_loads.References.{IsReadyToLoad, Loads, Refers, with_reference}
+use Rattle.cdrc.specs.protected_loads.References.{IsReadyToLoad, Loads, Refers, loaded_by, with_reference}
 use Rattle.cdrc.proofs.Below.protected_loads_Learning.{allowed, batch, batch_loaded, batch_moved, checked, client_found, client_moved, client_null, has_found, known_found, slot_there}
 use Rattle.cdrc.specs.protocol_pairs.Values.{value_of}
 use Rattle.example_stack.specs.Views.{View}
 use Rattle.example_stack.specs.Deeds.{IsStackPlace, SeeReady, SeeTells, see_next}
 use Rattle.example_stack.specs.Calls.{IsNullAt, IsPlaceOf, IsWhy, Sees}
+use Rattle.example_stack.specs.Leaving.{Leaves, with_found}
+use Rattle.example_stack.proofs.Leavings.{leaves_all, leaves_as, leaves_same}
+use Rattle.example_stack.proofs.Trails.{trail_same}
 use Rattle.example_stack.proofs.Knowing.{has_owned, node_still, own_node, saw_owned}
 
 kind_of : (q : Place) → place_kind (strong_place q) ≡ Strong
@@ -155,6 +160,19 @@ module _ {P : Type 0} (kind : List ℕ → Type 0) (d : DomainState P) (cell : �
         (plain.Check 0 (strong_place q)) m.checks.walks.1.word
         ∙ ap deeds m.announces.client)
 
+    -- what it owns beside
+    loaded_leaves : KnowsStill old.view.core old new → (found : Option SlotId)
+        → Loads kind d (strong_place q) see_next (SeeTells kind) found old new
+        → Leaves (with_found found old.view.core.owned) old new
+    loaded_leaves knows None null = leaves_all old new _ null.becomes.core knows
+    loaded_leaves knows (Some s) r =
+        leaves_as old new (with_strong s old.view.core) old.view.core (loaded_by (strong_place q) s)
+        (r.core ∙ ap (λ k. record (with_reference k s old.view.core) {
+          trail = old.view.core.trail ++ loaded_by (strong_place q) s;
+        })
+        (kind_of q))
+        refl (omega arith) knows (λ x was is. was)
+
     -- whatever the load answers
     module _ (r : Result (Option Handle) LoadError) (same : r ≡ Err refused.Spent → new ≡ old)
         (spent : r ≡ Err refused.Spent → IsSpent old.view.core)
@@ -162,14 +180,17 @@ module _ {P : Type 0} (kind : List ℕ → Type 0) (d : DomainState P) (cell : �
         Loads kind d (strong_place q) see_next (SeeTells kind) (named found) old new))
         (moved : (seen now : ℕ) → r ≡ Err (refused.Moved seen now)
         → Misses kind d 0 (strong_place q) see_next (SeeTells kind) (slot_in seen) (slot_in now)
-        old new) where
+        old new)
+        (knows : KnowsStill old.view.core old new) where
       abbrev After : Result (Option Handle) LoadError → Type 0
       After r =
           IfOk r (λ found. Sees kind d (named found) old new)
           × OnErr r (new.view.core.owned ≡ old.view.core.owned)
           × (deeds new.view.client ≡ deeds old.view.client)
           × (batch new.view.core ≡ batch old.view.core)
-          × IfErr r (λ error. IsWhy kind d (IsSpent old.view.core) error)
+          × IfErr r (λ error. IsWhy kind d (IsSpent old.view.core) error old new)
+          × IfOk r (λ found. Leaves (with_found (named found) old.view.core.owned) old new)
+          × OnErr r (Leaves old.view.core.owned old new)
 
       pub answered : After r
       answered = go r refl loaded
@@ -184,6 +205,8 @@ module _ {P : Type 0} (kind : List ℕ → Type 0) (d : DomainState P) (cell : �
             same_deeds (named found) l,
             batch_loaded kind d (strong_place q) see_next (SeeTells kind) old new (named found) l,
             tt,
+            loaded_leaves knows (named found) l,
+            tt,
           )
           go (Err refused.Spent) is l =
               let e = same is in (
@@ -192,6 +215,8 @@ module _ {P : Type 0} (kind : List ℕ → Type 0) (d : DomainState P) (cell : �
                 ap (λ (z : SeatState View). deeds z.view.client) e,
                 ap (λ (z : SeatState View). batch z.view.core) e,
                 spent is,
+                tt,
+                leaves_same old new e,
               )
           go (Err (refused.Moved seen now)) is l =
               let m = moved seen now is in (
@@ -200,7 +225,18 @@ module _ {P : Type 0} (kind : List ℕ → Type 0) (d : DomainState P) (cell : �
                 moved_deeds (slot_in seen) (slot_in now) m,
                 batch_moved kind d (strong_place q) see_next (SeeTells kind) old new (slot_in seen)
                     (slot_in now) m,
-                (strong_place q, old, new, inl m),
+                (
+                  strong_place q,
+                  inl (record {
+                    mid = old;
+                    late = new;
+                    since = trail_same old old refl;
+                    misses = m;
+                    till = trail_same new new refl;
+                  }),
+                ),
+                tt,
+                leaves_all old new _ m.core knows,
               )
 
 -- what a load found null it found by its look

@@ -12,6 +12,7 @@ use Rattle.cdrc.specs.control_word.Resting.{IsSpent}
 use Rattle.cdrc.specs.counted_handles.declared.refusal.LoadError.{LoadError}
 use Rattle.cdrc.specs.counted_handles.declared.refusal.LoadError.TheVariants as refused
 use Rattle.cdrc.specs.protected_loads.Loads.{FindsNull, Misses}
+use Rattle.cdrc.specs.protected_loads.References.{Loads}
 use Rattle.cdrc.specs.retiring_stores.Exchanging.{Loses}
 use Rattle.cdrc.specs.counted_handles.declared.place.Place.{Place}
 use Rattle.cdrc.specs.counted_handles.declared.place.Place.TheVariants as place
@@ -20,6 +21,7 @@ use Rattle.cdrc.specs.acquire_retire.Domains.{DomainState}
 use Rattle.cdrc.specs.acquire_retire.Seats.{SeatState}
 use Rattle.example_stack.specs.Views.{View}
 use Rattle.example_stack.specs.Deeds.{SawIt, SeeTells, TellsNothing, see_next}
+use Rattle.example_stack.specs.Leaving.{TrailGoesOn, with_found}
 
 -- the seat owns a reference to a node
 abbrev pub HasNode : (List ℕ → Type 0) → SlotId → SeatState View → Type 0
@@ -34,10 +36,6 @@ IsPlaceOf cell kind seat (place.Field x i) = (i ≡ 0) × HasNode kind x seat
 -- at most one add is left
 abbrev pub HasFewAdds : CoreView → Type 0
 HasFewAdds v = v.quota.adds ≤ v.adds + 1
-
-abbrev pub with_found : Option SlotId → List SlotId → List SlotId
-with_found None xs = xs
-with_found (Some s) xs = xs ++ s ∷ []
 
 -- the found slot, if it isn't null, holds a node
 abbrev pub IsNodeOf : (List ℕ → Type 0) → Option SlotId → SeatState View → Type 0
@@ -59,18 +57,58 @@ abbrev pub IsNullAt : {P : Type 0} → (List ℕ → Type 0) → DomainState P �
 IsNullAt kind d place None old new = FindsNull kind d place see_next (SeeTells kind) old new
 IsNullAt kind d place (Some s) old new = Unit {0}
 
--- A place held `seen`, and then another content, `now`: so a check of the seat's found, or an exchange.
-abbrev pub Changes : {P : Type 0} → (List ℕ → Type 0) → DomainState P → ℕ → ℕ → Type 0
-Changes kind d seen now =
-    (place : EventPlace) × (mid : SeatState View) × (late : SeatState View)
-    × (Misses kind d 0 place see_next (SeeTells kind) (slot_in seen) (slot_in now) mid late
-    ⊎ ((next : OwnPart → OwnPart → View → PlainAct → ℕ → View) × (given : Option SlotId)
-    × Loses kind d next TellsNothing place given (slot_in seen) (slot_in now) mid late))
+module _ {P : Type 0} (kind : List ℕ → Type 0) (d : DomainState P) where
+  -- Between these two states of the seat a load found `seen` in a place, and its check found another
+  -- content there, `now`.
+  pub record Passes (place : EventPlace) (seen now : Option SlotId) (old new : SeatState View)
+      : Type 0 where
+    pub mid : SeatState View
+    pub late : SeatState View
+    pub since : TrailGoesOn old mid
+    pub misses : Misses kind d 0 place see_next (SeeTells kind) seen now mid late
+    pub till : TrailGoesOn late new
 
--- why a call was refused: the seat was spent, or a place has changed
-abbrev pub IsWhy : {P : Type 0} → (List ℕ → Type 0) → DomainState P → Type 0 → LoadError → Type 0
-IsWhy kind d spent refused.Spent = spent
-IsWhy kind d spent (refused.Moved seen now) = Changes kind d seen now
+  -- Between these two states of the seat a compare and exchange that expected `seen` in a place
+  -- found another content there, `now`.
+  pub record LosesAt (place : EventPlace) (seen now : Option SlotId) (old new : SeatState View)
+      : Type 0 where
+    pub mid : SeatState View
+    pub late : SeatState View
+    pub next : OwnPart → OwnPart → View → PlainAct → ℕ → View
+    pub given : Option SlotId
+    pub since : TrailGoesOn old mid
+    pub loses : Loses kind d next TellsNothing place given seen now mid late
+    pub till : TrailGoesOn late new
+
+  -- Between these two states a load found `seen` in a place, and a later compare and exchange that
+  -- expected it found another content there, `now`.
+  pub record LosesAfter (place : EventPlace) (seen now : Option SlotId) (old new : SeatState View)
+      : Type 0 where
+    pub start : SeatState View
+    pub first : SeatState View
+    pub since : TrailGoesOn old start
+    pub loads : Loads kind d place see_next (SeeTells kind) seen start first
+    pub loses : LosesAt place seen now first new
+
+  -- A place of the stack was found to hold `seen`, and then another content, `now`, by two steps of
+  -- the seat between these two states.
+  abbrev pub Changes : ℕ → ℕ → SeatState View → SeatState View → Type 0
+  Changes seen now old new =
+      (place : EventPlace)
+      × (Passes place (slot_in seen) (slot_in now) old new
+      ⊎ LosesAfter place (slot_in seen) (slot_in now) old new)
+
+  -- why an exchange that expected this in a place was lost
+  abbrev pub IsWhyLost : EventPlace → Option SlotId → LoadError → SeatState View → SeatState View
+      → Type 0
+  IsWhyLost place expected refused.Spent old new = ⊥
+  IsWhyLost place expected (refused.Moved seen now) old new =
+      (slot_in seen ≡ expected) × LosesAt place expected (slot_in now) old new
+
+  -- why a call was refused: the seat was spent, or a place has changed meanwhile
+  abbrev pub IsWhy : Type 0 → LoadError → SeatState View → SeatState View → Type 0
+  IsWhy spent refused.Spent old new = spent
+  IsWhy spent (refused.Moved seen now) old new = Changes seen now old new
 
 -- a view that has pushed one value more; that has popped one value more
 abbrev pub pushed_too : List ℕ → View → View

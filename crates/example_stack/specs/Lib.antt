@@ -6,4 +6,5 @@ pub mod Leave
 pub mod Moves
 pub mod Makes
 pub mod Keeps
+pub mod Leaving
 pub mod Calls

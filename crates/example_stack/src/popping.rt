@@ -1,14 +1,16 @@
 //! A node is taken off a stack.
-ghost use Rattle.std.specs.Prelude.{◌≡◌, ◌<◌, ◌+◌, ◌∷◌, ◌++◌, [], IfErr, IfOk, OnErr};
+ghost use Rattle.std.specs.Prelude.{◌≡◌, ◌<◌, ◌∷◌, ◌++◌, [], IfErr, IfOk, OnErr, Some};
 ghost use Rattle.cdrc.specs.plain_state.declared.act.EventPlace.TheVariants as place;
 ghost use Rattle.cdrc.specs.plain_state.declared.slot.Kind.TheVariants as kind;
 ghost use Rattle.cdrc.specs.core_events.Steps.{CanGive, HasRoom, without_given};
+ghost use Rattle.cdrc.specs.core_events.Words.{slot_in};
 ghost use Rattle.cdrc.specs.atomic_shared.Places.{named};
 ghost use Rattle.cdrc.specs.control_word.Moves.{KnowsStill};
 ghost use Rattle.cdrc.specs.control_word.Resting.{IsAtRest};
 ghost use Rattle.cdrc.specs.domain_rule.Views.{object_in, own_of};
 ghost use Rattle.example_stack.specs.Deeds.{SawIt};
-ghost use Rattle.example_stack.specs.Calls.{Changes, HasFewAdds, HasNode, IsNullAt, IsWhy, Pops, popped_too};
+ghost use Rattle.example_stack.specs.Leaving.{Leaves, found_by, with_found};
+ghost use Rattle.example_stack.specs.Calls.{HasFewAdds, HasNode, IsNullAt, IsWhy, LosesAt, Pops, popped_too};
 
 use crate::deeds::PopNode;
 use crate::law::StackLaw;
@@ -35,7 +37,9 @@ pub fn try_pop<K: PayloadKind>(
         (place.Cell domain.now.protocol.cell) (named found) seat.old seat.new) }
     ensures notes { seat.new.view.core.notes ≡ seat.old.view.core.notes }
     ensures why { IfErr result (λ error. IsWhy K.fits domain.now
-        (HasFewAdds seat.old.view.core) error) }
+        (HasFewAdds seat.old.view.core) error seat.old seat.new) }
+    ensures leaves { Leaves (with_found (found_by result) seat.old.view.core.owned)
+        seat.old seat.new }
     ensures refused { OnErr result (seat.new.view.client.popped ≡ seat.old.view.client.popped) }
     ensures pushed { seat.new.view.client.pushed ≡ seat.old.view.client.pushed }
     ensures room { HasRoom seat.new.view.core }
@@ -87,7 +91,12 @@ fn take_top<K: PayloadKind>(
         ≡ (without_given kind.Strong (named below) seat.old.view.core).owned) }
     ensures refused { IfErr result (λ lost. seat.new.view.client ≡ seat.old.view.client) }
     ensures owned { IfErr result (λ lost. seat.new.view.core.owned ≡ seat.old.view.core.owned) }
-    ensures why { IfErr result (λ lost. Changes K.fits domain.now (top.0 + 1) lost.now) }
+    ensures why { IfErr result (λ lost. LosesAt K.fits domain.now (place.Cell cell) (Some top)
+        (slot_in lost.now) seat.old seat.new) }
+    ensures gives { IfOk result (λ done.
+        Leaves (without_given kind.Strong (named below) seat.old.view.core).owned
+        seat.old seat.new) }
+    ensures leaves { OnErr result (Leaves seat.old.view.core.owned seat.old seat.new) }
     ensures back { IfErr result (λ lost. lost.back ≡ below) }
     ensures notes { seat.new.view.core.notes ≡ seat.old.view.core.notes }
     ensures objects { KnowsStill (without_given kind.Strong (named below) seat.old.view.core)

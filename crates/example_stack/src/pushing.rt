@@ -1,14 +1,17 @@
 //! A node goes onto a stack.
-ghost use Rattle.std.specs.Prelude.{ℕ, ◌≡◌, ◌<◌, ◌∷◌, ◌++◌, [], IfErr, IfOk};
+ghost use Rattle.std.specs.Prelude.{ℕ, ◌≡◌, ◌<◌, ◌∷◌, ◌++◌, [], IfErr, IfOk, OnErr};
+ghost use Rattle.cdrc.specs.plain_state.declared.act.EventPlace.TheVariants as place;
 ghost use Rattle.cdrc.specs.plain_state.declared.slot.Kind.TheVariants as kind;
 ghost use Rattle.cdrc.specs.plain_state.Lists.{times};
 ghost use Rattle.cdrc.specs.core_events.Steps.{CanGive, HasRoom, IsContent, without_given};
+ghost use Rattle.cdrc.specs.core_events.Views.{without};
 ghost use Rattle.cdrc.specs.atomic_shared.Places.{named};
 ghost use Rattle.cdrc.specs.control_word.Moves.{KnowsStill};
 ghost use Rattle.cdrc.specs.control_word.Resting.{IsAtRest, IsSpent};
 ghost use Rattle.cdrc.specs.domain_rule.Views.{object_in, own_of};
 ghost use Rattle.example_stack.specs.Deeds.{SawIt};
-ghost use Rattle.example_stack.specs.Calls.{HasNode, IsWhy, pushed_too};
+ghost use Rattle.example_stack.specs.Leaving.{Leaves};
+ghost use Rattle.example_stack.specs.Calls.{HasNode, IsWhy, IsWhyLost, pushed_too};
 
 use crate::deeds::{LinkNode, PushNode};
 use crate::law::StackLaw;
@@ -42,7 +45,10 @@ pub fn try_push<K: PayloadKind>(
     ensures refused { IfErr result (λ not. seat.new.view.client.pushed
         ≡ seat.old.view.client.pushed) }
     ensures why { IfErr result (λ not. IsWhy K.fits domain.now (IsSpent seat.old.view.core)
-        not.error) }
+        not.error seat.old seat.new) }
+    ensures gives { IfOk result (λ done.
+        Leaves (without node.slot seat.old.view.core.owned) seat.old seat.new) }
+    ensures leaves { OnErr result (Leaves seat.old.view.core.owned seat.old seat.new) }
     ensures back { IfErr result (λ not. not.node ≡ node) }
     ensures still { IfErr result (λ not. HasNode K.fits not.node.slot seat.new) }
     ensures popped { seat.new.view.client.popped ≡ seat.old.view.client.popped }
@@ -87,6 +93,8 @@ fn link<K: PayloadKind>(
     ensures notes { seat.new.view.core.notes ≡ seat.old.view.core.notes }
     ensures objects { KnowsStill (without_given kind.Strong (named below) seat.old.view.core)
         seat.old seat.new }
+    ensures leaves { Leaves (without_given kind.Strong (named below) seat.old.view.core).owned
+        seat.old seat.new }
     ensures room { HasRoom seat.new.view.core }
     ensures rest { IsAtRest domain.now seat.new }
 {
@@ -110,7 +118,11 @@ fn put_on<K: PayloadKind>(
     ensures pushed { IfOk result (λ done. seat.new.view.client
         ≡ pushed_too (object_in seat.old.view node.slot).payload seat.old.view.client) }
     ensures refused { IfErr result (λ not. seat.new.view.client ≡ seat.old.view.client) }
-    ensures why { IfErr result (λ not. IsWhy K.fits domain.now ⊥ not.error) }
+    ensures why { IfErr result (λ not. IsWhyLost K.fits domain.now (place.Cell cell) expected
+        not.error seat.old seat.new) }
+    ensures gives { IfOk result (λ done.
+        Leaves (without node.slot seat.old.view.core.owned) seat.old seat.new) }
+    ensures leaves { OnErr result (Leaves seat.old.view.core.owned seat.old seat.new) }
     ensures back { IfErr result (λ not. not.node ≡ node) }
     ensures still { IfErr result (λ not. HasNode K.fits not.node.slot seat.new) }
     ensures notes { seat.new.view.core.notes ≡ seat.old.view.core.notes }

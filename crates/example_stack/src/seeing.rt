@@ -6,6 +6,9 @@ ghost use Rattle.cdrc.specs.atomic_shared.Loading.{CanLoad};
 ghost use Rattle.cdrc.specs.atomic_shared.Places.{named, strong_place};
 ghost use Rattle.cdrc.specs.control_word.Moves.{KnowsStill};
 ghost use Rattle.cdrc.specs.control_word.Resting.{IsAtRest, IsSpent};
+ghost use Rattle.cdrc.specs.protected_loads.References.{Loads};
+ghost use Rattle.example_stack.specs.Deeds.{SeeTells, see_next};
+ghost use Rattle.example_stack.specs.Leaving.{Leaves, with_found};
 ghost use Rattle.example_stack.specs.Calls.{IsNullAt, IsPlaceOf, IsWhy, Sees};
 
 use crate::deeds::SeeNode;
@@ -23,11 +26,16 @@ pub(crate) fn see<K: PayloadKind>(
     requires place { CanLoad domain.now.shape seat.old.view.core place }
     requires stack { IsPlaceOf domain.now.protocol.cell K.fits seat.old place }
     ensures saw { IfOk result (λ found. Sees K.fits domain.now (named found) seat.old seat.new) }
+    ensures loads { IfOk result (λ found. Loads K.fits domain.now (strong_place place) see_next
+        (SeeTells K.fits) (named found) seat.old seat.new) }
     ensures null { IfOk result (λ found. IsNullAt K.fits domain.now (strong_place place)
         (named found) seat.old seat.new) }
     ensures notes { seat.new.view.core.notes ≡ seat.old.view.core.notes }
     ensures why { IfErr result (λ error. IsWhy K.fits domain.now (IsSpent seat.old.view.core)
-        error) }
+        error seat.old seat.new) }
+    ensures gains { IfOk result (λ found.
+        Leaves (with_found (named found) seat.old.view.core.owned) seat.old seat.new) }
+    ensures leaves { OnErr result (Leaves seat.old.view.core.owned seat.old seat.new) }
     ensures owned { OnErr result (seat.new.view.core.owned ≡ seat.old.view.core.owned) }
     ensures pushed { seat.new.view.client.pushed ≡ seat.old.view.client.pushed }
     ensures popped { seat.new.view.client.popped ≡ seat.old.view.client.popped }
@@ -49,6 +57,8 @@ pub(crate) fn give_up<K: PayloadKind>(
     requires owned { CanGive kind.Strong (named handle) seat.old.view.core }
     ensures owned { seat.new.view.core.owned
         ≡ (without_given kind.Strong (named handle) seat.old.view.core).owned }
+    ensures leaves { Leaves (without_given kind.Strong (named handle) seat.old.view.core).owned
+        seat.old seat.new }
     ensures client { seat.new.view.client ≡ seat.old.view.client }
     ensures notes { seat.new.view.core.notes ≡ seat.old.view.core.notes }
     ensures room { HasRoom seat.new.view.core }

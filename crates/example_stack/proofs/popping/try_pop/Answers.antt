@@ -1,4 +1,6 @@
-use Rattle.std.proofs.Common.{◌+◌, ◌<◌, refl, sym, ap, subst, ◌∙◌, arith}
+use Rattle.std.proofs.Common.{◌<◌, refl, sym, ap, subst, ◌∙◌, arith}
+use Rattle.std.specs.Prelude.{Some}
+use Rattle.cdrc.specs.plain_state.declared.act.EventPlace.TheVariants.{Cell}
 use Rattle.cdrc.specs.plain_state.declared.slot.SlotId.{SlotId}
 use Rattle.cdrc.specs.plain_state.declared.slot.Kind.TheVariants.{Strong}
 use Rattle.cdrc.specs.plain_state.Lists.{times}
@@ -6,8 +8,15 @@ use Rattle.cdrc.specs.plain_protocol.Owns.{Object}
 use Rattle.cdrc.specs.core_events.Steps.{CanGive, without_given}
 use Rattle.cdrc.specs.atomic_shared.Places.{named}
 use Rattle.cdrc.specs.domain_rule.Views.{object_in}
-use Rattle.example_stack.specs.Calls.{Changes}
-use Rattle.example_stack.proofs.Takes.{can_give, handle_node, has_still, known_since, node_again, owns_still, pops}
+use Rattle.cdrc.specs.core_events.Words.{slot_in}
+use Rattle.cdrc.proofs.Below.core_law_ShownPlaces.{slot_word}
+use Rattle.cdrc.specs.protected_loads.References.{Loads}
+use Rattle.example_stack.specs.Deeds.{SeeTells, see_next}
+use Rattle.example_stack.specs.Leaving.{Leaves, with_found}
+use Rattle.example_stack.proofs.Framing.{lost_below, pop_leaves, pop_takes, there_and_back}
+use Rattle.example_stack.proofs.Leavings.{drop_leaves}
+use Rattle.example_stack.proofs.Trails.{trail_then}
+use Rattle.example_stack.proofs.Takes.{can_give, handle_node, has_still, known_since, lost_after, node_again, owns_still, pops, why_within}
 use Rattle.example_stack.proofs.popping.try_pop.Goals as goal
 
 pub see-requires-2-clause-place : goal.see-requires-2-clause-place
@@ -85,9 +94,62 @@ returns-in-Ok-take_top-clause-popped g c =
           (c.see-2.ensures.popped ∙ c.see.ensures.popped),
     )
 
+pub returns-in-Err-clause-leaves : goal.returns-in-Err-clause-leaves
+returns-in-Err-clause-leaves g c =
+    let top = subst (λ o. Leaves (with_found (named o) c.args.seat.now.view.core.owned)
+    c.args.seat.now c.see.new.seat) c.in-Some.is c.in_ok-top.ensures.gains in
+    pop_leaves c.in-Some.top.slot c.args.seat.now c.see.new.seat top c.see-2.new.seat
+    c.drop_strong.new.seat c.in-Err.ensures.leaves
+    (drop_leaves c.in-Some.top.slot c.see-2.new.seat c.drop_strong.new.seat
+    c.drop_strong.ensures.dropped c.drop_strong.ensures.objects)
+
+pub returns-in-Err-clause-why : goal.returns-in-Err-clause-why
+returns-in-Err-clause-why g c =
+    let drops = drop_leaves c.in-Some.top.slot c.see-2.new.seat c.drop_strong.new.seat
+    c.drop_strong.ensures.dropped c.drop_strong.ensures.objects in
+    why_within g.K.PayloadKind.fits c.args.domain.now c.in_ok-top.ensures.saw.spent c.in-Err.error
+    c.args.seat.now c.see.new.seat c.see-2.new.seat c.drop_strong.new.seat
+    c.in_ok-top.ensures.gains.trail drops.trail c.in-Err.ensures.why
+
+pub returns-in-Ok-take_top-clause-leaves : goal.returns-in-Ok-take_top-clause-leaves
+returns-in-Ok-take_top-clause-leaves g c =
+    let top = subst (λ o. Leaves (with_found (named o) c.args.seat.now.view.core.owned)
+    c.args.seat.now c.see.new.seat) c.in-Some.is c.in_ok-top.ensures.gains in
+    pop_takes c.in-Some.top.slot c.args.seat.now c.see.new.seat top c.take_top.new.seat
+    (there_and_back (named c.in-Ok.below) c.see.new.seat c.see-2.new.seat c.take_top.new.seat
+    c.in-Ok.ensures.saw.owned c.in-Ok.ensures.gains c.in-Ok-take_top.ensures.gives)
+
+pub returns-in-Err-take_top-clause-leaves : goal.returns-in-Err-take_top-clause-leaves
+returns-in-Err-take_top-clause-leaves g c =
+    let top = subst (λ o. Leaves (with_found (named o) c.args.seat.now.view.core.owned)
+    c.args.seat.now c.see.new.seat) c.in-Some.is c.in_ok-top.ensures.gains in
+    let gives = subst (λ o. Leaves (without_given Strong (named o) c.take_top.new.seat.view.core).owned
+    c.take_top.new.seat c.give_up.new.seat) c.in-Err-take_top.ensures.back
+    c.give_up.ensures.leaves in
+    pop_leaves c.in-Some.top.slot c.args.seat.now c.see.new.seat top c.give_up.new.seat
+    c.drop_strong-in-Err-take_top.new.seat
+    (lost_below c.in-Some.top.slot c.args.seat.now c.see.new.seat top (named c.in-Ok.below)
+    c.see-2.new.seat c.take_top.new.seat c.give_up.new.seat c.in-Ok.ensures.saw.owned
+    c.in-Ok.ensures.gains c.in-Err-take_top.ensures.leaves c.in-Err-take_top.ensures.owned gives)
+    (drop_leaves c.in-Some.top.slot c.give_up.new.seat c.drop_strong-in-Err-take_top.new.seat
+    c.drop_strong-in-Err-take_top.ensures.dropped c.drop_strong-in-Err-take_top.ensures.objects)
+
 pub returns-in-Err-take_top-clause-why : goal.returns-in-Err-take_top-clause-why
 returns-in-Err-take_top-clause-why g c =
-    subst (λ n. Changes g.K.PayloadKind.fits c.args.domain.now n c.in-Err-take_top.lost.now)
-    (ap (λ (s : SlotId). s.0 + 1) (c.slot-2.ensures ∙ sym c.slot-in-Err-take_top.ensures)
-    ∙ sym c.held_as.ensures)
+    let drops = drop_leaves c.in-Some.top.slot c.give_up.new.seat
+    c.drop_strong-in-Err-take_top.new.seat c.drop_strong-in-Err-take_top.ensures.dropped
+    c.drop_strong-in-Err-take_top.ensures.objects in
+    lost_after g.K.PayloadKind.fits c.args.domain.now (Cell c.args.cell)
+    (Some c.in-Some.top.slot) (Some c.slot-2.result) c.held_as.result c.in-Err-take_top.lost.now
+    c.args.seat.now c.see.new.seat c.see-2.new.seat c.take_top.new.seat
+    c.drop_strong-in-Err-take_top.new.seat
+    (ap slot_in c.held_as.ensures ∙ slot_word (Some c.slot-in-Err-take_top.result)
+    ∙ ap (λ (s : SlotId). Some s) c.slot-in-Err-take_top.ensures)
+    (ap (λ (s : SlotId). Some s) c.slot-2.ensures)
+    (subst (λ o. Loads g.K.PayloadKind.fits c.args.domain.now (Cell c.args.cell) see_next
+    (SeeTells g.K.PayloadKind.fits) (named o) c.args.seat.now c.see.new.seat) c.in-Some.is
+    c.in_ok-top.ensures.loads)
+    c.in-Ok.ensures.gains.trail
+    (trail_then c.take_top.new.seat c.give_up.new.seat c.drop_strong-in-Err-take_top.new.seat
+    c.give_up.ensures.leaves.trail drops.trail)
     c.in-Err-take_top.ensures.why
