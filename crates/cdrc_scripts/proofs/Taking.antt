@@ -40,7 +40,7 @@ settled_still (Some reason) d e settled ran stays =
 -- what a line does on a domain it does by the commands' rows
 taken_so : (s : Place) (words : List (List ℕ)) (out : List ℕ) (next : Place)
     → TakesOn s words out next → Takes (told s) words out (told next)
-taken_so None words out next (slots, cells, weak_cells, d, spells, range, opened, trail, none, is) =
+taken_so None words out next (slots, cells, weak_cells, d, spells, range, opened, one, seated, trail, none, is) =
     (slots, cells, weak_cells, desk_of d, spells, range, opened, none, ap told is)
 taken_so (Some d) words out next (c, e, spells, runs, is) = (
   c,

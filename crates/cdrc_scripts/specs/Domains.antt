@@ -4,7 +4,9 @@ use Rattle.std.specs.Prelude.{ℕ, ◌≡◌, ⊤, Bool, List, [], Option, Some,
 use Rattle.script_law.specs.plain_store.Settling.{IsSettled}
 use Rattle.script_law.specs.plain_protocol.declared.no_law.NoLaw.{NoLaw}
 use Rattle.domain_desk.specs.core_events.Shows.{show_seat}
+use Rattle.domain_desk.specs.acquire_retire.Calls.{IsOf}
 use Rattle.domain_desk.specs.acquire_retire.Seats.{SeatState}
+use Rattle.domain_desk.specs.lone_heap.Lone.{IsForOne}
 use Rattle.domain_desk.specs.lone_heap.Trails.{Shows}
 use Rattle.line_machine.specs.line_words.declared.reason.Reason.{Reason}
 use Rattle.line_machine.specs.Runs.{IsRun}
@@ -38,21 +40,29 @@ IsSettledDesk (Some d) = IsKept d × IsSettled (plain_of d)
 abbrev pub told : Place → Option Desk
 told s = option_map desk_of s
 
--- a command without a fault answers so, by its row, writes its line and leaves e; the trail of the seat shows it
+-- the seat is one of the desk's domain
+abbrev pub IsSeated : OnDomain → Type 0
+IsSeated d = IsOf d.domain d.seat
+
+-- A command without a fault answers so, by its row, writes its line and leaves e. The trail of the seat shows it, and
+-- the domain is the same.
 pub record RunsOn (d : OnDomain) (c : Command) (out : List ℕ) (e : OnDomain) : Type 0 where
   pub answer : Said
   pub faultless : IsFaultless (scope_of (desk_of d)) c
   pub runs : Runs (desk_of d) c answer (desk_of e)
   pub written : out ≡ said_line c answer
   pub shown : ShowsCommand c answer (core_of d) (core_of e)
+  pub domain : e.domain ≡ d.domain
+  pub seated : IsSeated e
 
--- the first line gives a heap its numbers, whose seat has made no step, and writes nothing; every later line is a
--- command without a fault, which runs
+-- The first line gives a heap its numbers, and writes nothing: it opens a domain of one seat and these numbers, and the
+-- seat has made no step. Every later line is a command without a fault, which runs on that domain.
 abbrev pub TakesOn : Place → List (List ℕ) → List ℕ → Place → Type 0
 TakesOn None words out next =
     (slots : ℕ) × (cells : ℕ) × (weak_cells : ℕ) × (d : OnDomain)
     × Spells (Heap slots cells weak_cells) words × IsHeapInRange slots cells weak_cells
-    × IsOpened slots cells weak_cells (desk_of d) × ((core_of d).trail ≡ []) × (out ≡ []) × (next ≡ Some d)
+    × IsOpened slots cells weak_cells (desk_of d) × IsForOne slots cells weak_cells d.domain
+    × IsSeated d × ((core_of d).trail ≡ []) × (out ≡ []) × (next ≡ Some d)
 TakesOn (Some d) words out next =
     (c : Command) × (e : OnDomain) × SpellsCommand c words × RunsOn d c out e × (next ≡ Some e)
 
@@ -62,16 +72,17 @@ RefusesOn s words reason = Refuses (told s) words reason
 abbrev pub EndsOn : Place → List ℕ → Bool → Type 0
 EndsOn s out refused = Ends (told s) out refused
 
--- The seat of the last desk, if there is one: all that was bound has been given up, and its trail has gone on from that
--- of the desk.
+-- The seat of the last desk, if there is one: it is of the same domain, all that was bound has been given up, and its
+-- trail has gone on from that of the desk.
 abbrev pub IsClosed : Place → Option (SeatState (Unit {0})) → Type 0
 IsClosed None seat = seat ≡ None
 IsClosed (Some d) seat =
-    (s : SeatState (Unit {0})) × (seat ≡ Some s) × Shows [] (core_of d) s.view.core
-    × HasNoHandles (show_seat s.view.core)
+    (s : SeatState (Unit {0})) × (seat ≡ Some s) × IsOf d.domain s
+    × Shows [] (core_of d) s.view.core × HasNoHandles (show_seat s.view.core)
 
 -- The text writes these bytes on a domain; `refused` tells whether a line of it is refused. The seat is that of the
--- domain, if the first line opened one: its trail shows the commands that were run, in their order.
+-- domain that the first line opened, if it opened one: it has the numbers of that line, and its trail shows the
+-- commands that were run, in their order.
 pub record IsScriptOn (text bytes : List ℕ) (refused : Bool) (seat : Option (SeatState (Unit {0})))
     : Type 0 where
   pub last : Place

@@ -5,6 +5,7 @@ ghost use Rattle.script_law.specs.script_lines.Spelling.{Spells, SpellsCommand};
 ghost use Rattle.script_law.specs.script_lines.declared.command.ScriptLine.TheVariants.{Heap, Command as OnHeap};
 ghost use Rattle.script_law.specs.script_lines.declared.command.Command.{Command as OneCommand};
 ghost use Rattle.script_law.specs.script_lines.declared.refused.CommandRefused.TheVariants.{Syntax};
+ghost use Rattle.domain_desk.specs.lone_heap.Lone.{IsForOne};
 ghost use Rattle.domain_desk.specs.Desks.{core_of, desk_of};
 ghost use Rattle.cdrc_scripts.specs.Domains.{IsSettledDesk};
 ghost use Rattle.cdrc_scripts.specs.Meaning.{IsHeapInRange, IsOpened};
@@ -79,6 +80,8 @@ pub(crate) fn open(alloc: Global, numbers: HeapNumbers) -> Result<Option<DomainD
     ensures opened { IfOk result (λ found. IfSome found (λ desk.
         IsHeapInRange numbers.slots numbers.cells numbers.weak_cells
         × IsOpened numbers.slots numbers.cells numbers.weak_cells (desk_of desk))) }
+    ensures one { IfOk result (λ found. IfSome found (λ desk.
+        IsForOne numbers.slots numbers.cells numbers.weak_cells desk.domain)) }
     ensures trail { IfOk result (λ found. IfSome found (λ desk. (core_of desk).trail ≡ [])) }
     ensures settled { IfOk result (λ found. IsSettledDesk found) }
     ensures refused { result ≡ Ok None

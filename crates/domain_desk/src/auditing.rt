@@ -1,5 +1,5 @@
 //! What an audit of the heap shows, by names.
-ghost use Rattle.std.specs.Prelude.{IfOk, OnOk};
+ghost use Rattle.std.specs.Prelude.{◌≡◌, IfOk, OnOk};
 ghost use Rattle.script_desk.specs.deleter.Weighing.{Weighs};
 ghost use Rattle.script_desk.specs.plain_store.Settling.{IsSettled};
 ghost use Rattle.script_desk.specs.script_lines.declared.command.Command.TheVariants as command;
@@ -25,6 +25,7 @@ impl DomainDesk {
             Acts (desk_of self.old) command.Audit answer (desk_of self.new)) }
         ensures shows { IfOk result (λ answer.
             ShowsCommand (command.Audit) answer (core_of self.old) (core_of self.new)) }
+        ensures domain { self.new.domain ≡ self.old.domain }
         ensures kept { OnOk result (IsKept self.new) }
     {
         let ranks = ranks(self.alloc, &self.makers)?;

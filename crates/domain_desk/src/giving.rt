@@ -75,6 +75,7 @@ impl DomainDesk {
         requires bound { IsBoundTo self.old.names name.now is_any }
         ensures gives { GivesNamed (desk_of self.old) name.now (desk_of self.new) }
         ensures trail { Shows [] (core_of self.old) (core_of self.new) }
+        ensures domain { self.new.domain ≡ self.old.domain }
         ensures kept { IsKept self.new }
     {
         match self.names.unbind(name) {
@@ -97,6 +98,7 @@ impl DomainDesk {
         ensures settled { IsSettled (known_plain result.0 result.1) }
         ensures none { HasNoHandles (seat_at (known_plain result.0 result.1) 0) }
         ensures trail { Shows [] (core_of self) result.1.view.core }
+        ensures domain { result.0 ≡ self.domain }
         ensures ready { IsReady result.0 result.1 }
     {
         let DomainDesk {

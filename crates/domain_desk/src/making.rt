@@ -21,6 +21,7 @@ impl DomainDesk {
         ensures shows { IfOk result (λ answer.
             ShowsCommand (command.Make name.now weight) answer
             (core_of self.old) (core_of self.new)) }
+        ensures domain { self.new.domain ≡ self.old.domain }
         ensures kept { OnOk result (IsKept self.new) }
     {
         let number = self.makes;

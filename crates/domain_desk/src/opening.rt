@@ -5,6 +5,7 @@ ghost use Rattle.script_desk.specs.plain_state.declared.slot.SlotId.{SlotId};
 ghost use Rattle.script_desk.specs.plain_state.State.{empty};
 ghost use Rattle.script_desk.specs.plain_store.Settling.{IsSettled};
 ghost use Rattle.script_desk.specs.Desks.{maker_of, nobody};
+ghost use Rattle.lone_heap.specs.Lone.{IsForOne};
 ghost use Rattle.domain_desk.specs.Desks.{IsKept, core_of, desk_of, plain_of};
 
 use crate::desk::DomainDesk;
@@ -24,6 +25,7 @@ impl DomainDesk {
         requires slots { (1 ≤ slots) × (slots ≤ most_slots) }
         requires cells { cells ≤ most_cells }
         requires weak_cells { weak_cells ≤ most_weak_cells }
+        ensures one { IfOk result (λ desk. IsForOne slots cells weak_cells desk.domain) }
         ensures plain { IfOk result (λ desk. plain_of desk ≡ empty 1 slots cells weak_cells) }
         ensures settled { IfOk result (λ desk. IsSettled (plain_of desk)) }
         ensures names { IfOk result (λ desk. desk.names ≡ []) }

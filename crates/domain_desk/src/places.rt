@@ -31,6 +31,7 @@ impl DomainDesk {
             (desk_of self.new) }
         ensures shows { ShowsCommand (command.Put place.now name.now) said.Nothing
             (core_of self.old) (core_of self.new) }
+        ensures domain { self.new.domain ≡ self.old.domain }
         ensures kept { IsKept self.new }
     {
         let at = place_of(&self.names, self.sizes(), place);
@@ -48,6 +49,7 @@ impl DomainDesk {
             (desk_of self.new) }
         ensures shows { ShowsCommand (command.Clear place.now) said.Nothing
             (core_of self.old) (core_of self.new) }
+        ensures domain { self.new.domain ≡ self.old.domain }
         ensures kept { IsKept self.new }
     {
         let at = place_of(&self.names, self.sizes(), place);
@@ -65,6 +67,7 @@ impl DomainDesk {
         ensures shows { IfOk result (λ answer.
             ShowsCommand (command.Load place.now new.now) answer
             (core_of self.old) (core_of self.new)) }
+        ensures domain { self.new.domain ≡ self.old.domain }
         ensures kept { OnOk result (IsKept self.new) }
     {
         let at = place_of(&self.names, self.sizes(), place);
@@ -82,6 +85,7 @@ impl DomainDesk {
         ensures loads { IfOk result (λ answer.
             LoadsStrong (desk_of self.old) at new.now answer (desk_of self.new)) }
         ensures trail { OnOk result (Shows [] (core_of self.old) (core_of self.new)) }
+        ensures domain { self.new.domain ≡ self.old.domain }
         ensures kept { OnOk result (IsKept self.new) }
     {
         let Ok(found) = load(&self.domain, &mut self.seat, at) else {
@@ -105,6 +109,7 @@ impl DomainDesk {
         ensures loads { IfOk result (λ answer.
             LoadsWeak (desk_of self.old) at new.now answer (desk_of self.new)) }
         ensures trail { OnOk result (Shows [] (core_of self.old) (core_of self.new)) }
+        ensures domain { self.new.domain ≡ self.old.domain }
         ensures kept { OnOk result (IsKept self.new) }
     {
         let Ok(found) = load(&self.domain, &mut self.seat, at) else {
@@ -137,6 +142,7 @@ impl DomainDesk {
             result (desk_of self.new) }
         ensures shows { ShowsCommand (command.Replace place.now old.now new.now) result
             (core_of self.old) (core_of self.new) }
+        ensures domain { self.new.domain ≡ self.old.domain }
         ensures kept { IsKept self.new }
     {
         let at = place_of(&self.names, self.sizes(), place);

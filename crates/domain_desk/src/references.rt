@@ -23,6 +23,7 @@ impl DomainDesk {
         ensures shows { IfOk result (λ answer.
             ShowsCommand (command.Copy name.now new.now) answer
             (core_of self.old) (core_of self.new)) }
+        ensures domain { self.new.domain ≡ self.old.domain }
         ensures kept { OnOk result (IsKept self.new) }
     {
         let slot = self.names.strong_slot(name);
@@ -46,6 +47,7 @@ impl DomainDesk {
         ensures shows { IfOk result (λ answer.
             ShowsCommand (command.Weaken name.now new.now) answer
             (core_of self.old) (core_of self.new)) }
+        ensures domain { self.new.domain ≡ self.old.domain }
         ensures kept { OnOk result (IsKept self.new) }
     {
         let slot = self.names.strong_slot(name);
@@ -69,6 +71,7 @@ impl DomainDesk {
         ensures shows { IfOk result (λ answer.
             ShowsCommand (command.CopyWeak name.now new.now) answer
             (core_of self.old) (core_of self.new)) }
+        ensures domain { self.new.domain ≡ self.old.domain }
         ensures kept { OnOk result (IsKept self.new) }
     {
         let slot = self.names.weak_slot(name);
@@ -92,6 +95,7 @@ impl DomainDesk {
         ensures shows { IfOk result (λ answer.
             ShowsCommand (command.Upgrade name.now new.now) answer
             (core_of self.old) (core_of self.new)) }
+        ensures domain { self.new.domain ≡ self.old.domain }
         ensures kept { OnOk result (IsKept self.new) }
     {
         let slot = self.names.weak_slot(name);

@@ -1,5 +1,5 @@
 //! A command is run.
-ghost use Rattle.std.specs.Prelude.{IfOk, OnOk, []};
+ghost use Rattle.std.specs.Prelude.{◌≡◌, IfOk, OnOk, []};
 ghost use Rattle.script_desk.specs.deleter.Weighing.{Weighs};
 ghost use Rattle.script_desk.specs.plain_store.Settling.{IsSettled};
 ghost use Rattle.script_desk.specs.Desks.{Tidied, scope_of};
@@ -31,6 +31,7 @@ impl DomainDesk {
             Runs (desk_of self.old) command.now answer (desk_of self.new)) }
         ensures shows { IfOk result (λ answer.
             ShowsCommand (command.now) answer (core_of self.old) (core_of self.new)) }
+        ensures domain { self.new.domain ≡ self.old.domain }
         ensures kept { OnOk result (IsKept self.new) }
     {
         let said = self.act(command, weigh)?;
@@ -51,6 +52,7 @@ impl DomainDesk {
             Begins (desk_of self.old) command.now answer (desk_of self.new)) }
         ensures shows { IfOk result (λ answer.
             ShowsCommand (command.now) answer (core_of self.old) (core_of self.new)) }
+        ensures domain { self.new.domain ≡ self.old.domain }
         ensures kept { OnOk result (IsKept self.new) }
     {
         match command {
@@ -87,6 +89,7 @@ impl DomainDesk {
         ensures tidied { Tidied (desk_of self.old) (desk_of self.new) }
         ensures settled { IsSettled (plain_of self.new) }
         ensures trail { Shows [] (core_of self.old) (core_of self.new) }
+        ensures domain { self.new.domain ≡ self.old.domain }
         ensures kept { IsKept self.new }
     {
         settle_all(&self.domain, &mut self.seat, weigh);

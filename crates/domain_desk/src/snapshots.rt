@@ -37,6 +37,7 @@ impl DomainDesk {
         ensures shows { IfOk result (λ answer.
             ShowsCommand (command.Snap place.now new.now) answer
             (core_of self.old) (core_of self.new)) }
+        ensures domain { self.new.domain ≡ self.old.domain }
         ensures kept { OnOk result (IsKept self.new) }
     {
         let at = place_of(&self.names, self.sizes(), place);
@@ -63,6 +64,7 @@ impl DomainDesk {
         ensures shows { IfOk result (λ answer.
             ShowsCommand (command.Keep name.now new.now) answer
             (core_of self.old) (core_of self.new)) }
+        ensures domain { self.new.domain ≡ self.old.domain }
         ensures kept { OnOk result (IsKept self.new) }
     {
         let slot = self.names.slot(name);

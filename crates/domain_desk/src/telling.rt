@@ -24,6 +24,7 @@ impl DomainDesk {
             (desk_of self.new) }
         ensures shows { ShowsCommand (command.Read name.now word) result
             (core_of self.old) (core_of self.new) }
+        ensures domain { self.new.domain ≡ self.old.domain }
         ensures kept { IsKept self.new }
     {
         let slot = self.names.slot(name);
@@ -39,6 +40,7 @@ impl DomainDesk {
             (desk_of self.new) }
         ensures shows { ShowsCommand (command.Counts name.now) result
             (core_of self.old) (core_of self.new) }
+        ensures domain { self.new.domain ≡ self.old.domain }
         ensures kept { IsKept self.new }
     {
         let slot = self.names.slot(name);

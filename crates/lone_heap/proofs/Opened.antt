@@ -21,7 +21,7 @@ use Rattle.protected_loads.specs.acquire_retire.Openings.{begun_seat, opened_sea
 use Rattle.protected_loads.specs.acquire_retire.Seats.{SeatState}
 use Rattle.protected_loads.specs.control_word.Resting.{IsAtRest}
 use Rattle.protected_loads.proofs.Below.control_word_Beginning.{all_at_rest}
-use Rattle.lone_heap.specs.Lone.{IsReady, known_plain}
+use Rattle.lone_heap.specs.Lone.{IsForOne, IsReady, known_plain, terms_of_one}
 
 -- such a domain, whatever its sizes and its seat's quota
 abbrev lone_domain : {P : Type 0} → TableId → P → ℕ → ℕ → ℕ → ℕ → Terms → DomainState P
@@ -30,6 +30,15 @@ lone_domain table protocol slots cells weak_cells batch ts = record {
   protocol = protocol;
   shape = record { seats = 1; slots = slots; cells = cells; weak_cells = weak_cells; batch = batch };
   terms = ts;
+}
+
+-- one with the batch and the quota that `open` gives it
+pub opened_for_one : {P : Type 0} (d : DomainState P) (protocol : P) (slots cells weak_cells : ℕ)
+    → d ≡ lone_domain d.table protocol slots cells weak_cells 4 terms_of_one
+    → IsForOne slots cells weak_cells d
+opened_for_one {P} d protocol slots cells weak_cells is = record {
+  shape = ap (λ (x : DomainState P). x.shape) is;
+  terms = ap (λ (x : DomainState P). x.terms) is;
 }
 
 module _ {P V : Type 0} (first : ℕ → V) (table : TableId) (protocol : P)

@@ -1,18 +1,39 @@
 -- A seat that is alone in its domain, and the plain state that it knows.
-use Rattle.std.specs.Prelude.{◌≡◌, IsSome}
+use Rattle.std.specs.Prelude.{ℕ, ◌≡◌, ◌^◌, [], ◌∷◌, IsSome}
 use Rattle.protected_loads.specs.plain_state.declared.slot.Kind.TheVariants.{Disposal}
 use Rattle.protected_loads.specs.plain_state.declared.slot.SlotId.{SlotId}
 use Rattle.protected_loads.specs.plain_state.Lists.{entry_times}
 use Rattle.protected_loads.specs.plain_state.State.{Plain, seat_at}
 use Rattle.plain_settling.specs.Settling.{TidiesTo}
+use Rattle.protected_loads.specs.core_events.declared.shape.Quota.{Quota}
+use Rattle.protected_loads.specs.core_events.declared.shape.Shape.{Shape}
 use Rattle.protected_loads.specs.core_events.Shows.{show_seat, shows}
 use Rattle.protected_loads.specs.core_events.Steps.{HasRoom}
-use Rattle.protected_loads.specs.core_events.Views.{snapshots}
+use Rattle.protected_loads.specs.core_events.Views.{Terms, snapshots}
 use Rattle.protected_loads.specs.domain_rule.Views.{IsAlone}
 use Rattle.protected_loads.specs.acquire_retire.Domains.{DomainState}
 use Rattle.protected_loads.specs.acquire_retire.Seats.{SeatState}
 use Rattle.protected_loads.specs.acquire_retire.Wholes.{known_core}
 use Rattle.protected_loads.specs.control_word.Resting.{IsAtRest}
+
+-- one seat, and these numbers; beside an entry for each announcement word the seat retires four before it scans
+abbrev pub shape_of_one : ℕ → ℕ → ℕ → Shape
+shape_of_one slots cells weak_cells = record {
+  seats = 1;
+  slots = slots;
+  cells = cells;
+  weak_cells = weak_cells;
+  batch = 4;
+}
+
+-- what the seat may use up: it draws no ticket
+abbrev pub terms_of_one : Terms
+terms_of_one = record { quotas = record { makes = 2 ^ 40; adds = 2 ^ 40 } ∷ []; grants = [] }
+
+-- a domain of one seat and these numbers
+pub record IsForOne {P : Type 0} (slots cells weak_cells : ℕ) (d : DomainState P) : Type 0 where
+  pub shape : d.shape ≡ shape_of_one slots cells weak_cells
+  pub terms : d.terms ≡ terms_of_one
 
 -- the plain state that the domain shows, as the seat knows it
 abbrev pub known_plain : {P V : Type 0} → DomainState P → SeatState V → Plain

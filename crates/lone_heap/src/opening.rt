@@ -2,7 +2,7 @@
 ghost use Rattle.std.specs.Prelude.{◌≡◌, ◌≤◌, [], IfOk};
 ghost use Rattle.protected_loads.specs.plain_state.Limits.{most_cells, most_slots, most_weak_cells};
 ghost use Rattle.protected_loads.specs.plain_state.State.{empty};
-ghost use Rattle.lone_heap.specs.Lone.{IsReady, known_plain};
+ghost use Rattle.lone_heap.specs.Lone.{IsForOne, IsReady, known_plain};
 ghost use Rattle.lone_heap.specs.Words.{AreNoted};
 
 use crate::words::Words;
@@ -32,6 +32,7 @@ pub fn open<K: PayloadKind>(
     requires slots { (1 ≤ slots) × (slots ≤ most_slots) }
     requires cells { cells ≤ most_cells }
     requires weak_cells { weak_cells ≤ most_weak_cells }
+    ensures one { IfOk result (λ r. IsForOne slots cells weak_cells r.0) }
     ensures empty { IfOk result (λ r. known_plain r.0 r.1 ≡ empty 1 slots cells weak_cells) }
     ensures trail { IfOk result (λ r. r.1.view.core.trail ≡ []) }
     ensures noted { IfOk result (λ r. AreNoted r.2 r.1) }

@@ -3,6 +3,7 @@ use Rattle.line_machine.specs.line_words.Words.{texts_of}
 use Rattle.script_law.specs.script_lines.Spelling.{Spells}
 use Rattle.script_law.specs.script_lines.declared.command.ScriptLine.TheVariants.{Heap}
 use Rattle.script_law.specs.script_lines.declared.refused.CommandRefused.TheVariants.{Syntax}
+use Rattle.domain_desk.specs.lone_heap.Lone.{IsForOne}
 use Rattle.domain_desk.specs.Desks.{core_of, desk_of}
 use Rattle.cdrc_scripts.specs.Domains.{IsSettledDesk}
 use Rattle.cdrc_scripts.specs.Meaning.{IsHeapInRange, IsOpened}
@@ -19,6 +20,7 @@ returns-in-Some-clause-taken c =
     let spells : Spells (Heap n.slots n.cells n.weak_cells) (texts_of c.args.words.now) = search rules in
     let opened : IsHeapInRange n.slots n.cells n.weak_cells
     × IsOpened n.slots n.cells n.weak_cells (desk_of c.in-Some.desk) = search rules in
+    let one : IsForOne n.slots n.cells n.weak_cells c.in-Some.desk.domain = search rules in
     let trail : (core_of c.in-Some.desk).trail ≡ [] = search rules in
     let settled : IsSettledDesk (Some c.in-Some.desk) = search rules in (
       (
@@ -29,6 +31,8 @@ returns-in-Some-clause-taken c =
         spells,
         opened.0,
         opened.1,
+        one,
+        settled.0.ready.rest.of_domain,
         trail,
         refl,
         refl,

@@ -1,8 +1,13 @@
 use Rattle.std.proofs.Common.{ℕ, List, Err, ap, sym, ◌∙◌, arith}
 use Rattle.std.specs.Prelude.{slice_index_or}
 use Rattle.protected_loads.specs.acquire_retire.Seats.{SeatState}
-use Rattle.lone_heap.proofs.Opened.{never_bad, opened_first, seat_ready, seat_shown}
+use Rattle.lone_heap.proofs.Opened.{never_bad, opened_first, opened_for_one, seat_ready, seat_shown}
 use Rattle.lone_heap.proofs.opening.open.Goals as goal
+
+pub returns-clause-one : goal.returns-clause-one
+returns-clause-one g c =
+    opened_for_one c.in-Ok.opened.0 _ c.args.slots c.args.cells c.args.weak_cells
+    c.in-Ok.ensures.domain
 
 pub returns-clause-empty : goal.returns-clause-empty
 returns-clause-empty g c =
