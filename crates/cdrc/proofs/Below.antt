@@ -1,7 +1,11 @@
 -- The lemmas that proofs of clients cite, by the crate that has them.
 pub use Rattle.domain_audit.proofs.Below.acquire_retire_Wholes as acquire_retire_Wholes
+pub use Rattle.control_word.proofs.Beginning as control_word_Beginning
+pub use Rattle.control_word.proofs.NotedBack as control_word_NotedBack
+pub use Rattle.domain_audit.proofs.Below.core_law_Each as core_law_Each
 pub use Rattle.domain_audit.proofs.Below.core_law_Kit as core_law_Kit
 pub use Rattle.domain_audit.proofs.Below.core_law_ShownPlaces as core_law_ShownPlaces
+pub use Rattle.place_history.proofs.Putting as place_history_Putting
 pub use Rattle.domain_audit.proofs.Below.plain_state_Kit as plain_state_Kit
 pub use Rattle.domain_audit.proofs.Below.protected_loads_Checking as protected_loads_Checking
 pub use Rattle.domain_audit.proofs.Below.protected_loads_Learning as protected_loads_Learning
@@ -14,5 +18,6 @@ pub use Rattle.domain_audit.proofs.Below.protocol_pairs_Owning as protocol_pairs
 pub use Rattle.domain_audit.proofs.Below.protocol_pairs_Values as protocol_pairs_Values
 pub use Rattle.domain_audit.proofs.Below.protocol_pairs_WeaklyHeld as protocol_pairs_WeaklyHeld
 pub use Rattle.domain_audit.proofs.Below.slot_store_Sparing as slot_store_Sparing
+pub use Rattle.domain_audit.proofs.Below.slot_store_Turning as slot_store_Turning
 pub use Rattle.weak_intern.proofs.Below.snapshot_ptr_Taken as snapshot_ptr_Taken
 pub use Rattle.weak_intern.proofs.Below.snapshot_ptr_Under as snapshot_ptr_Under

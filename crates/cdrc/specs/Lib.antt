@@ -20,6 +20,7 @@ pub use Rattle.hand_queues.specs as hand_queues
 pub use Rattle.domain_audit.specs.heap_audit as heap_audit
 pub use Rattle.hand_queues.specs.linked_queue as linked_queue
 pub use Rattle.hand_queues.specs.part_calls as part_calls
+pub use Rattle.place_history.specs as place_history
 pub use Rattle.domain_audit.specs.plain_audit as plain_audit
 pub use Rattle.domain_audit.specs.plain_protocol as plain_protocol
 pub use Rattle.domain_audit.specs.plain_state as plain_state

@@ -24,7 +24,7 @@ use Rattle.cdrc.proofs.Below.protected_loads_Learning.{batch, batch_loaded, batc
 use Rattle.cdrc.specs.protocol_pairs.Values.{value_of}
 use Rattle.example_cache.specs.Views.{View}
 use Rattle.example_cache.specs.Deeds.{RecallTells, recall_next}
-use Rattle.example_cache.specs.Calls.{Finds, FoundEnded, HasEnded, recalled_too, weak_named}
+use Rattle.example_cache.specs.Calls.{Finds, recalled_too, weak_named}
 
 -- a seat knows the value of what it has
 pub value_known : (s : SlotId) (seat : SeatState View) → HasSlot (show_seat seat.view.core) s
@@ -145,10 +145,3 @@ answered_at kind d i cell is old rest new r same loaded moved =
     (λ seen now e.
     subst (λ j. Misses kind d 0 (WeakCell j) recall_next (RecallTells cell) (slot_in seen)
     (slot_in now) old new) is (moved seen now e))
-
--- what the seat found has ended
-pub ended_found : {P : Type 0} (kind : List ℕ → Type 0) (d : DomainState P) (cell : ℕ)
-    (old mid : SeatState View) (s : SlotId) → Finds kind d cell (Some s) old mid
-    → HasEnded kind d s mid → FoundEnded kind d cell old
-ended_found kind d cell old mid s finds ended =
-    record { slot = s; mid = mid; loads = finds.loads; ended = ended }

@@ -3,6 +3,9 @@ use Rattle.std.specs.Prelude.{ℕ, ◌≡◌, ◌<◌, ◌+◌, ◌≤◌, List,
 use Rattle.cdrc.specs.plain_state.declared.act.EventPlace.TheVariants.{WeakCell}
 use Rattle.cdrc.specs.plain_state.declared.slot.SlotId.{SlotId}
 use Rattle.cdrc.specs.plain_state.Lists.{times}
+use Rattle.cdrc.specs.core_events.declared.view.CoreView.{CoreView}
+use Rattle.cdrc.specs.core_events.declared.view.Move.{Move}
+use Rattle.cdrc.specs.core_events.Views.{without}
 use Rattle.cdrc.specs.counted_handles.Handles.{Handle}
 use Rattle.cdrc.specs.atomic_shared.Places as shared
 use Rattle.cdrc.specs.atomic_weak.Places as weakly
@@ -10,7 +13,8 @@ use Rattle.cdrc.specs.domain_rule.Views.{object_in}
 use Rattle.cdrc.specs.acquire_retire.Calls.{IsSameView, same_view}
 use Rattle.cdrc.specs.acquire_retire.Domains.{DomainState}
 use Rattle.cdrc.specs.acquire_retire.Seats.{SeatState}
-use Rattle.cdrc.specs.control_word.Calls.{FindsEnded, GainsWeak}
+use Rattle.cdrc.specs.control_word.Calls.{DropsWeak, FindsEnded, GainsStrong, GainsWeak, without_weak}
+use Rattle.cdrc.specs.control_word.Moves.{KnowsStill}
 use Rattle.cdrc.specs.protected_loads.Loads.{Misses}
 use Rattle.cdrc.specs.protected_loads.References.{Loads}
 use Rattle.cdrc.specs.retiring_stores.Exchanging.{Stores}
@@ -57,26 +61,73 @@ abbrev pub Moves : {P : Type 0} → (List ℕ → Type 0) → DomainState P → 
 Moves kind d cell seen now old new =
     Misses kind d 0 (WeakCell cell) recall_next (RecallTells cell) seen now old new
 
--- the seat's look found null in the cell; or it owns the object of the value that it recalled
+-- by one add the seat counted a strong reference to s, and then it gave up a weak one
+pub record Raises {P : Type 0} (kind : List ℕ → Type 0) (d : DomainState P) (s : SlotId)
+    (old new : SeatState View) : Type 0 where
+  pub counted : SeatState View
+  pub gains : GainsStrong kind d same_view IsSameView s old counted
+  pub drops : DropsWeak kind d s counted new
+
+-- its add found that there was no strong reference to s, and then it gave up a weak one
+pub record HasEnded {P : Type 0} (kind : List ℕ → Type 0) (d : DomainState P) (s : SlotId)
+    (old new : SeatState View) : Type 0 where
+  pub late : SeatState View
+  pub finds : FindsEnded kind d same_view IsSameView s old late
+  pub drops : DropsWeak kind d s late new
+
+-- Its load of the cell found s there, of which it then made a strong reference. It owns the object, and
+-- has recalled its value.
+pub record RecallsSlot {P : Type 0} (kind : List ℕ → Type 0) (d : DomainState P) (cell : ℕ)
+    (s : SlotId) (old new : SeatState View) : Type 0 where
+  pub found : SeatState View
+  pub loads : Loads kind d (WeakCell cell) recall_next (RecallTells cell) (Some s) old found
+  pub raises : Raises kind d s found new
+  pub owns : 0 < times s new.view.core.owned
+  pub value : RecallsValue (Some s) old new
+
+-- the seat's look found null in the cell, or it recalled the object that its load found there
 abbrev pub Recalls : {P : Type 0} → (List ℕ → Type 0) → DomainState P → ℕ → Option SlotId
     → SeatState View → SeatState View → Type 0
 Recalls kind d cell None old new =
     Loads kind d (WeakCell cell) recall_next (RecallTells cell) None old new
     × (new.view.client ≡ old.view.client)
-Recalls kind d cell (Some s) old new =
-    (0 < times s new.view.core.owned) × RecallsValue (Some s) old new
+Recalls kind d cell (Some s) old new = RecallsSlot kind d cell s old new
+
+-- what a seat has beside the references that it owns, its trail, and how many adds it used
+abbrev pub aside : CoreView → CoreView
+aside v = record v { owned = []; weaks = []; adds = 0; trail = [] }
+
+-- the trail of the seat goes on from what it was
+abbrev pub TrailGoesOn : SeatState View → SeatState View → Type 0
+TrailGoesOn old new = (ms : List Move) × (new.view.core.trail ≡ old.view.core.trail ++ ms)
+
+-- The seat has given up a weak reference to s. It used one add at most, and has what it had beside the
+-- references that it owns; of the objects of all else that it had it knows what it knew.
+pub record GivesWeak (s : SlotId) (old new : SeatState View) : Type 0 where
+  pub weaks : new.view.core.weaks ≡ without s old.view.core.weaks
+  pub same : aside new.view.core ≡ aside old.view.core
+  pub adds :
+      (old.view.core.adds ≤ new.view.core.adds)
+      × (new.view.core.adds ≤ old.view.core.adds + 1)
+  pub trail : TrailGoesOn old new
+  pub knows : KnowsStill (without_weak s old.view.core) old new
 
 abbrev pub with_found : Option SlotId → List SlotId → List SlotId
 with_found None xs = xs
 with_found (Some s) xs = xs ++ s ∷ []
 
--- The seat owns what it owned, each slot as often, and strongly what was found. Its announcement words are as they
--- were.
+-- The seat owns what it owned, each slot as often, and strongly what was found. It used two adds at most,
+-- and has what it had beside: its announcement words, what it has retired, and what is dying.
 pub record OwnsWith (found : Option SlotId) (old new : SeatState View) : Type 0 where
   pub strongly :
       (x : SlotId) → times x new.view.core.owned ≡ times x (with_found found old.view.core.owned)
   pub weakly : (x : SlotId) → times x new.view.core.weaks ≡ times x old.view.core.weaks
   pub notes : new.view.core.notes ≡ old.view.core.notes
+  pub same : aside new.view.core ≡ aside old.view.core
+  pub adds :
+      (old.view.core.adds ≤ new.view.core.adds)
+      × (new.view.core.adds ≤ old.view.core.adds + 2)
+  pub trail : TrailGoesOn old new
 
 -- the slot of which a call answers a reference; none where it was refused
 abbrev pub answered : {E : Type 0} → Result (Option Handle) E → Option SlotId
@@ -91,16 +142,11 @@ pub record RemembersSlot {P : Type 0} (kind : List ℕ → Type 0) (d : DomainSt
   pub stores :
       Stores kind d remember_next (RememberTells cell) (WeakCell cell) (Some s) counted new
 
--- at a later step of the seat's there was no strong reference to s
-abbrev pub HasEnded : {P : Type 0} → (List ℕ → Type 0) → DomainState P → SlotId → SeatState View
-    → Type 0
-HasEnded kind d s mid = (late : SeatState View) × FindsEnded kind d same_view IsSameView s mid late
-
--- the cell held a slot to which, at a later step of the seat's, there was no strong reference
+-- Its load found a slot in the cell to which, at a later step of the seat's, there was no strong
+-- reference. It has given up the weak one.
 pub record FoundEnded {P : Type 0} (kind : List ℕ → Type 0) (d : DomainState P) (cell : ℕ)
-    (old : SeatState View) : Type 0 where
+    (old new : SeatState View) : Type 0 where
   pub slot : SlotId
-  pub mid : SeatState View
-  pub loads :
-      Loads kind d (WeakCell cell) recall_next (RecallTells cell) (Some slot) old mid
-  pub ended : HasEnded kind d slot mid
+  pub found : SeatState View
+  pub loads : Loads kind d (WeakCell cell) recall_next (RecallTells cell) (Some slot) old found
+  pub ended : HasEnded kind d slot found new

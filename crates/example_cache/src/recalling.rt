@@ -1,12 +1,11 @@
 //! A value is recalled, as long as its object lives.
 ghost use Rattle.std.specs.Prelude.{ℕ, ◌≡◌, ◌≤◌, ◌+◌, ◌<◌, ◌++◌, ◌∷◌, ◌↔◌, [], Err, IfOk, OnErr};
 ghost use Rattle.cdrc.specs.core_events.Steps.{HasRoom};
-ghost use Rattle.cdrc.specs.core_events.Views.{without};
 ghost use Rattle.cdrc.specs.core_events.Words.{slot_in};
 ghost use Rattle.cdrc.specs.counted_handles.declared.refusal.LoadError.TheVariants as refused;
 ghost use Rattle.cdrc.specs.control_word.Moves.{KnowsStill};
 ghost use Rattle.cdrc.specs.control_word.Resting.{IsAtRest, IsSpent};
-ghost use Rattle.example_cache.specs.Calls.{Finds, FoundEnded, HasEnded, Moves, OwnsWith, Recalls, answered, strong_named, weak_named};
+ghost use Rattle.example_cache.specs.Calls.{Finds, FoundEnded, GivesWeak, HasEnded, Moves, OwnsWith, Raises, Recalls, answered, strong_named, weak_named};
 ghost use Rattle.example_cache.specs.declared.recalling.RecallError.TheVariants as no_recall;
 ghost use Rattle.cdrc.specs.control_word.declared.upgrading.UpgradeError.TheVariants as no_raise;
 ghost use Rattle.cdrc.specs.domain_rule.Views.{object_in};
@@ -31,9 +30,9 @@ pub enum RecallError {
     Spent,
 }
 
-/// A strong reference to the object whose value was remembered last. `None` where nothing was remembered. `Ended` where
-/// the object has ended, `Moved` where the cell changed meanwhile, and `Spent` where the seat has used all adds of its
-/// quota, of which a recall takes two. At most eight steps.
+/// A strong reference to the object that the cell holds, by a load and one add. `None` where nothing was remembered.
+/// `Ended` where the object has ended, `Moved` where the cell changed meanwhile, and `Spent` where the seat has used
+/// all adds of its quota, of which a recall takes two. At most eight steps.
 pub fn recall<K: PayloadKind>(
     domain: &Domain<CacheLaw<K>>,
     seat: &mut Seat<CacheLaw<K>>,
@@ -46,7 +45,7 @@ pub fn recall<K: PayloadKind>(
     ensures recalled { IfOk result (λ found. Recalls K.fits domain.now
         domain.now.protocol.cell (strong_named found) seat.old seat.new) }
     ensures ended { result ≡ Err no_recall.Ended → FoundEnded K.fits domain.now
-        domain.now.protocol.cell seat.old }
+        domain.now.protocol.cell seat.old seat.new }
     ensures moved { (seen now : ℕ) → result ≡ Err (no_recall.Moved seen now)
         → Moves K.fits domain.now domain.now.protocol.cell (slot_in seen) (slot_in now)
         seat.old seat.new }
@@ -54,6 +53,8 @@ pub fn recall<K: PayloadKind>(
         → seat.old.view.core.quota.adds ≤ seat.old.view.core.adds + 1 }
     ensures remembered { seat.new.view.client.remembered ≡ seat.old.view.client.remembered }
     ensures owns { OwnsWith (answered result) seat.old seat.new }
+    ensures notes { seat.new.view.core.notes ≡ seat.old.view.core.notes }
+    ensures objects { KnowsStill seat.old.view.core seat.old seat.new }
     ensures room { HasRoom seat.new.view.core }
     ensures rest { IsAtRest domain.now seat.new }
 {
@@ -80,17 +81,19 @@ fn raise<K: PayloadKind>(
     requires rest { IsAtRest domain.now seat.old }
     requires room { HasRoom seat.old.view.core }
     requires owned { 0 < times weak.slot seat.old.view.core.weaks }
-    ensures same { IfOk result (λ strong. strong.slot ≡ weak.slot) }
+    ensures raised { IfOk result (λ strong. (strong.slot ≡ weak.slot)
+        × Raises K.fits domain.now weak.slot seat.old seat.new) }
     ensures owned { IfOk result (λ strong. 0 < times strong.slot seat.new.view.core.owned) }
     ensures known { IfOk result (λ strong. object_in seat.new.view strong.slot
         ≡ object_in seat.old.view weak.slot) }
-    ensures ended { result ≡ Err no_raise.Ended → HasEnded K.fits domain.now weak.slot seat.old }
+    ensures ended { result ≡ Err no_raise.Ended
+        → HasEnded K.fits domain.now weak.slot seat.old seat.new }
     ensures spent { result ≡ Err no_raise.Spent → IsSpent seat.old.view.core }
     ensures client { seat.new.view.client ≡ seat.old.view.client }
     ensures gains { IfOk result (λ strong. seat.new.view.core.owned
         ≡ seat.old.view.core.owned ++ strong.slot ∷ []) }
     ensures still { OnErr result (seat.new.view.core.owned ≡ seat.old.view.core.owned) }
-    ensures gives { seat.new.view.core.weaks ≡ without weak.slot seat.old.view.core.weaks }
+    ensures gives { GivesWeak weak.slot seat.old seat.new }
     ensures notes { seat.new.view.core.notes ≡ seat.old.view.core.notes }
     ensures room { HasRoom seat.new.view.core }
     ensures rest { IsAtRest domain.now seat.new }

@@ -3,6 +3,7 @@ ghost use Rattle.std.specs.Prelude.{◌≡◌, ◌<◌, ◌↔◌, IfOk, IsErr, 
 ghost use Rattle.cdrc.specs.plain_state.Lists.{times};
 ghost use Rattle.cdrc.specs.plain_state.declared.slot.SlotId.{SlotId};
 ghost use Rattle.cdrc.specs.core_events.Steps.{HasRoom};
+ghost use Rattle.cdrc.specs.control_word.Moves.{KnowsStill};
 ghost use Rattle.cdrc.specs.control_word.Resting.{IsAtRest, IsSpent};
 ghost use Rattle.cdrc.specs.domain_rule.Views.{object_in};
 ghost use Rattle.example_cache.specs.Calls.{RemembersSlot, remembered_too};
@@ -38,6 +39,7 @@ pub fn remember<K: PayloadKind>(
     ensures notes { seat.new.view.core.notes ≡ seat.old.view.core.notes }
     ensures known { object_in seat.new.view object.now.slot
         ≡ object_in seat.old.view object.now.slot }
+    ensures objects { KnowsStill seat.old.view.core seat.old seat.new }
     ensures room { HasRoom seat.new.view.core }
     ensures rest { IsAtRest domain.now seat.new }
 {

@@ -1,2 +1,4 @@
+pub mod Pasts
+pub mod Putting
 pub mod Readings
 pub mod Storings

@@ -1,5 +1,5 @@
 -- What a snapshot with the deed ReadValue leaves of a seat.
-use Rattle.std.proofs.Common.{◌≡◌, inl, inr, ℕ, suc, zero, ◌<◌, ◌+◌, List, [], ◌∷◌, ◌++◌, length, refl, sym, ap, subst, ◌∙◌, arith, Option, Some, None}
+use Rattle.std.proofs.Common.{◌≡◌, inl, inr, ℕ, suc, zero, ◌<◌, ◌+◌, List, ◌++◌, length, refl, sym, ap, subst, ◌∙◌, arith, Option, Some, None}
 use Rattle.std.specs.Prelude.{Err, IfOk, Ok, Result, if◌then◌else◌}
 use Rattle.cdrc.specs.plain_state.declared.act.EventPlace.{EventPlace}
 use Rattle.cdrc.specs.plain_state.declared.act.EventPlace.TheVariants.{Cell}

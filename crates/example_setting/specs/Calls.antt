@@ -3,6 +3,10 @@ use Rattle.std.specs.Prelude.{ℕ, ◌≡◌, ◌<◌, List, [], ◌∷◌, ◌+
 use Rattle.cdrc.specs.plain_state.declared.act.EventPlace.TheVariants.{Cell}
 use Rattle.cdrc.specs.plain_state.declared.slot.SlotId.{SlotId}
 use Rattle.cdrc.specs.plain_state.Lists.{times}
+use Rattle.cdrc.specs.core_events.declared.act.Act.TheVariants as act
+use Rattle.cdrc.specs.core_events.declared.act.Event.{Event}
+use Rattle.cdrc.specs.core_events.Runs.{Core, History}
+use Rattle.cdrc.specs.domain_rule.Past.{GoesOnFrom}
 use Rattle.cdrc.specs.domain_rule.Views.{object_in}
 use Rattle.cdrc.specs.acquire_retire.Calls.{IsSameView, same_view}
 use Rattle.cdrc.specs.acquire_retire.Domains.{DomainState}
@@ -10,6 +14,7 @@ use Rattle.cdrc.specs.acquire_retire.Notes.{least_free}
 use Rattle.cdrc.specs.acquire_retire.Seats.{SeatState}
 use Rattle.cdrc.specs.claim_law.Claims.{makes_given}
 use Rattle.cdrc.specs.control_word.Resting.{IsSpent}
+use Rattle.cdrc.specs.place_history.Puts.{WasPut}
 use Rattle.cdrc.specs.protected_loads.Loads.{Misses}
 use Rattle.cdrc.specs.retiring_stores.Exchanging.{Stores}
 use Rattle.cdrc.specs.slot_store.Calls.{HasNoMake, Makes}
@@ -42,6 +47,21 @@ Moves kind d cell seen now old new =
 abbrev pub OwnsAsMuch : SeatState View → SeatState View → Type 0
 OwnsAsMuch old new =
     (x : SlotId) → times x new.view.core.owned ≡ times x old.view.core.owned
+
+-- What the seat found in slot s was put into the cell. The history of its check of the cell goes on from
+-- its own past. By an event of that history a seat put s there, with the payload that this seat knows
+-- now, and until the check the cell has held it.
+pub record WasPutThere {P : Type 0} (d : DomainState P) (cell : ℕ) (s : SlotId)
+    (old new : SeatState View) : Type 0 where
+  pub word : ℕ
+  pub events : List Event
+  pub core : Core
+  pub history : History d.shape d.terms events core
+  pub since : GoesOnFrom old.view.past events
+  pub checked :
+      GoesOnFrom (record { seat = old.view.core.seat; act = act.Check word (Cell cell) } ∷ events)
+      new.view.past
+  pub put : WasPut d.shape d.terms events core cell s (object_in new.view s).payload
 
 module _ {P : Type 0} (kind : List ℕ → Type 0) (d : DomainState P) where
   -- its look at the cell found null, or it came under a snapshot of what the cell held at its check

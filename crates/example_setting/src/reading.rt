@@ -8,16 +8,16 @@ ghost use Rattle.cdrc.specs.control_word.Moves.{KnowsStill};
 ghost use Rattle.cdrc.specs.control_word.Resting.{IsAtRest};
 ghost use Rattle.cdrc.specs.snapshot_ptr.Handles.{IsUnder, notes_with, slot_under};
 ghost use Rattle.cdrc.specs.snapshot_ptr.Taking.{CanTakeNone};
-ghost use Rattle.example_setting.specs.Calls.{Moves, Reads, TakesFrom};
+ghost use Rattle.example_setting.specs.Calls.{Moves, Reads, TakesFrom, WasPutThere};
 
 use crate::deeds::ReadValue;
 use crate::law::SettingLaw;
 use cdrc::{Domain, LoadError, PayloadKind, Place, Seat, Snapshot, try_snapshot};
 
-/// A snapshot of the object that the cell holds. The seat has read its value then: `slot_store::read` tells each word,
-/// as long as the snapshot lasts, and `snapshot_ptr::end` ends it. `None` where the cell was found null, `Moved` where
-/// it changed meanwhile, and `Spent` where the seat is under three snapshots and has no add left of its quota. At most
-/// four steps, or five and one add where the snapshot is counted.
+/// A snapshot of the object that the cell holds. The seat has read its value then, which some seat put into the cell:
+/// `slot_store::read` tells each word, as long as the snapshot lasts, and `snapshot_ptr::end` ends it. `None` where the
+/// cell was found null, `Moved` where it changed meanwhile, and `Spent` where the seat is under three snapshots and has
+/// no add left of its quota. At most four steps, or five and one add where the snapshot is counted.
 pub fn read_value<K: PayloadKind>(
     domain: &Domain<SettingLaw<K>>,
     seat: &mut Seat<SettingLaw<K>>,
@@ -30,6 +30,8 @@ pub fn read_value<K: PayloadKind>(
     ensures read { IfOk result (λ found. Reads found seat.old.view.client seat.new) }
     ensures taken { IfOk result (λ found. TakesFrom K.fits domain.now domain.now.protocol.cell
         (slot_under found) seat.old seat.new) }
+    ensures put { IfOk result (λ found. IfSome found (λ snapshot. WasPutThere domain.now
+        domain.now.protocol.cell snapshot.slot seat.old seat.new)) }
     ensures refused { result ≡ Err refused.Spent → seat.new ≡ seat.old }
     ensures moved { (seen now : ℕ) → result ≡ Err (refused.Moved seen now)
         → Moves K.fits domain.now domain.now.protocol.cell (slot_in seen) (slot_in now)

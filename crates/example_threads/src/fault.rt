@@ -8,6 +8,8 @@ use thiserror::Error;
 pub enum Fault {
     #[error("example_threads: no domain could be opened")]
     Domain(#[from] OpenError),
+    #[error("example_threads: a seat has not left its domain")]
+    Stayed,
     #[error("example_threads: out of memory")]
     Memory(#[from] OutOfMemory),
     #[error("example_threads: no output")]

@@ -1,11 +1,12 @@
 //! A setting that two threads store and read.
-ghost use Rattle.std.specs.Prelude.{◌≡◌, ◌<◌};
+ghost use Rattle.std.specs.Prelude.{◌≡◌, ◌<◌, All, IfOk};
 ghost use Rattle.example_threads.specs.Free.{IsFree};
 
+use crate::counted::Counted;
+use crate::domains::{end as end_domain, leave_all, open};
 use crate::fault::Fault;
-use crate::numbers::{Counted, NumberKind, TURNS, payload_of};
-use crate::opening::open;
-use cdrc::{Deleter, Domain, OutOfMemory, Seat, end, read, reap};
+use crate::numbers::{NumberKind, TURNS, payload_of};
+use cdrc::{Audit, Deleter, Domain, OutOfMemory, Seat, end, read, reap};
 use example_setting::{SettingLaw, read_value, store_value};
 use std::alloc::Global;
 use std::thread;
@@ -41,11 +42,12 @@ fn read_number(domain: &Domain<Setting>, seat: &mut Seat<Setting>) -> Option<u64
     Some(number)
 }
 
-/// What one thread does.
-fn work(domain: &Domain<Setting>, mut seat: Seat<Setting>) -> Counted
+/// What one thread does. It hands its seat back.
+fn work(domain: &Domain<Setting>, mut seat: Seat<Setting>) -> (Seat<Setting>, Counted)
     requires free { IsFree domain.now seat }
     requires cell { domain.now.protocol.cell ≡ 0 }
     requires there { 0 < domain.now.shape.cells }
+    ensures { IsFree domain.now result.0 }
 {
     let mut counted = Counted::new();
     for number in 1..=TURNS {
@@ -56,14 +58,29 @@ fn work(domain: &Domain<Setting>, mut seat: Seat<Setting>) -> Counted
             counted.found(found);
         }
     }
-    counted
+    (seat, counted)
 }
 
-/// Two threads store and read.
-pub fn run<R: Threads + Sync>(rt: &R, alloc: Global) -> Result<Counted, Fault> {
-    let (domain, seats) = open(alloc, Setting::new(CELL))?;
-    let counts = thread::map_vec(rt, seats, &|seat| work(&domain, seat)).map_err(
-        OutOfMemory::from,
-    )?;
-    Ok(Counted::of_all(&counts))
+/// Each seat in a thread of its own.
+fn work_all<R: Threads + Sync>(
+    rt: &R,
+    domain: &Domain<Setting>,
+    seats: Vec<Seat<Setting>>,
+) -> Result<Vec<(Seat<Setting>, Counted)>, OutOfMemory>
+    requires free { All (IsFree domain.now) seats.items }
+    requires cell { domain.now.protocol.cell ≡ 0 }
+    requires there { 0 < domain.now.shape.cells }
+    ensures { IfOk result (λ done. All (λ d. IsFree domain.now d.0) done.items) }
+{
+    thread::map_vec(rt, seats, &|seat| work(domain, seat)).map_err(OutOfMemory::from)
+}
+
+/// Two threads store and read. What they counted, and what is left: the value that was stored last.
+pub fn run<R: Threads + Sync>(rt: &R, alloc: Global) -> Result<(Counted, Audit), Fault> {
+    let (domain, mut root, seats) = open(alloc, Setting::new(CELL))?;
+    let done = work_all(rt, &domain, seats)?;
+    let all = leave_all(&domain, &mut root, done);
+    let deleter: Deleter<NumberKind, _> = Deleter::keep(|_payload: &[u64; 16]| 0);
+    let left = end_domain(alloc, domain, root, &deleter)?;
+    Ok((all, left))
 }

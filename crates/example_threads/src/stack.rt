@@ -1,12 +1,13 @@
 //! A stack that two threads push and pop.
-ghost use Rattle.std.specs.Prelude.{◌≡◌, ◌<◌, ⊤};
+ghost use Rattle.std.specs.Prelude.{◌≡◌, ◌<◌, ⊤, All, IfOk};
 ghost use Rattle.example_stack.specs.Calls.{HasNode};
 ghost use Rattle.example_threads.specs.Free.{IsFree};
 
+use crate::counted::Counted;
+use crate::domains::{end, leave_all, open};
 use crate::fault::Fault;
 use crate::numbers::{NumberKind, TURNS, payload_of};
-use crate::opening::open;
-use cdrc::{Domain, LoadError, OutOfMemory, Seat, Strong, drop_strong, read};
+use cdrc::{Audit, Deleter, Domain, LoadError, OutOfMemory, Seat, Strong, drop_strong, read};
 use crossbeam_utils::Backoff;
 use example_stack::{NotPushed, StackLaw, make_node, try_pop, try_push};
 use std::alloc::Global;
@@ -17,15 +18,6 @@ use std::thread::Threads;
 type Stack = StackLaw<NumberKind>;
 
 const CELL: u32 = 0;
-
-/// What threads pushed and popped.
-#[derive(Clone, Copy, PartialEq, Eq, Debug, Drop)]
-pub struct Popped {
-    /// How many nodes were pushed.
-    pub pushed: u64,
-    /// The sum of the numbers that were popped.
-    pub sum: u64,
-}
 
 /// Pushes a node, however often another thread is quicker. Whether there was an add for it.
 fn push<R: Wait>(rt: &R, domain: &Domain<Stack>, seat: &mut Seat<Stack>, node: Strong) -> bool
@@ -82,61 +74,69 @@ fn tell(domain: &Domain<Stack>, seat: &mut Seat<Stack>, node: Strong) -> Option<
     Some(number)
 }
 
-/// Pushes the numbers from 1 to `TURNS`, and tells how many.
-fn push_all<R: Wait>(rt: &R, domain: &Domain<Stack>, seat: &mut Seat<Stack>) -> u64
+/// Pushes the numbers from 1 to `TURNS`, and counts those that were pushed.
+fn push_all<R: Wait>(rt: &R, domain: &Domain<Stack>, seat: &mut Seat<Stack>, counted: &mut Counted)
     requires free { IsFree domain.now seat.old }
     requires cell { domain.now.protocol.cell ≡ 0 }
     requires there { 0 < domain.now.shape.cells }
     ensures { IsFree domain.now seat.new }
 {
-    let mut pushed: u64 = 0;
     for number in 1..=TURNS {
         if let Ok(node) = make_node(domain, seat, &payload_of(number)) {
             if push(rt, domain, seat, node) {
-                pushed = pushed.saturating_add(1);
+                counted.turn();
             }
         }
     }
-    pushed
 }
 
-/// Pops as many, and tells their sum.
-fn pop_all<R: Wait>(rt: &R, domain: &Domain<Stack>, seat: &mut Seat<Stack>) -> u64
+/// Pops as many, and counts what it found.
+fn pop_all<R: Wait>(rt: &R, domain: &Domain<Stack>, seat: &mut Seat<Stack>, counted: &mut Counted)
     requires free { IsFree domain.now seat.old }
     requires cell { domain.now.protocol.cell ≡ 0 }
     requires there { 0 < domain.now.shape.cells }
     ensures { IsFree domain.now seat.new }
 {
-    let mut sum: u64 = 0;
     for _turn in 0..TURNS {
         if let Some(number) = pop(rt, domain, seat) {
-            sum = sum.saturating_add(number);
+            counted.found(number);
         }
     }
-    sum
 }
 
-/// What one thread does.
-fn work<R: Wait>(rt: &R, domain: &Domain<Stack>, mut seat: Seat<Stack>) -> Popped
+/// What one thread does. It hands its seat back.
+fn work<R: Wait>(rt: &R, domain: &Domain<Stack>, mut seat: Seat<Stack>) -> (Seat<Stack>, Counted)
     requires free { IsFree domain.now seat }
     requires cell { domain.now.protocol.cell ≡ 0 }
     requires there { 0 < domain.now.shape.cells }
+    ensures { IsFree domain.now result.0 }
 {
-    let pushed = push_all(rt, domain, &mut seat);
-    let sum = pop_all(rt, domain, &mut seat);
-    Popped { pushed, sum }
+    let mut counted = Counted::new();
+    push_all(rt, domain, &mut seat, &mut counted);
+    pop_all(rt, domain, &mut seat, &mut counted);
+    (seat, counted)
 }
 
-/// Two threads push and pop.
-pub fn run<R: Threads + Wait + Sync>(rt: &R, alloc: Global) -> Result<Popped, Fault> {
-    let (domain, seats) = open(alloc, Stack::new(CELL))?;
-    let both = thread::map_vec(rt, seats, &|seat| work(rt, &domain, seat)).map_err(
-        OutOfMemory::from,
-    )?;
-    let mut all = Popped { pushed: 0, sum: 0 };
-    for popped in &both {
-        all.pushed = all.pushed.saturating_add(popped.pushed);
-        all.sum = all.sum.saturating_add(popped.sum);
-    }
-    Ok(all)
+/// Each seat in a thread of its own.
+fn work_all<R: Threads + Wait + Sync>(
+    rt: &R,
+    domain: &Domain<Stack>,
+    seats: Vec<Seat<Stack>>,
+) -> Result<Vec<(Seat<Stack>, Counted)>, OutOfMemory>
+    requires free { All (IsFree domain.now) seats.items }
+    requires cell { domain.now.protocol.cell ≡ 0 }
+    requires there { 0 < domain.now.shape.cells }
+    ensures { IfOk result (λ done. All (λ d. IsFree domain.now d.0) done.items) }
+{
+    thread::map_vec(rt, seats, &|seat| work(rt, domain, seat)).map_err(OutOfMemory::from)
+}
+
+/// Two threads push and pop. What they counted, and what is left: nothing, since all was popped.
+pub fn run<R: Threads + Wait + Sync>(rt: &R, alloc: Global) -> Result<(Counted, Audit), Fault> {
+    let (domain, mut root, seats) = open(alloc, Stack::new(CELL))?;
+    let done = work_all(rt, &domain, seats)?;
+    let all = leave_all(&domain, &mut root, done);
+    let deleter: Deleter<NumberKind, _> = Deleter::keep(|_payload: &[u64; 16]| 0);
+    let left = end(alloc, domain, root, &deleter)?;
+    Ok((all, left))
 }
