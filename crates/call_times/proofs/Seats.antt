@@ -1,5 +1,5 @@
 -- The jobs that are made of some seats.
-use Rattle.std.proofs.Common.{ℕ, zero, suc, ◌≡◌, ◌<◌, ◌++◌, List, [], ◌∷◌, Option, Some, None, length, map, refl, sym, subst, arith}
+use Rattle.std.proofs.Common.{Bool, Ok, Result, false, true, ℕ, zero, suc, ◌≡◌, ◌<◌, ◌++◌, List, [], ◌∷◌, Option, Some, None, length, map, refl, sym, subst, arith}
 use Rattle.std.specs.Prelude.{IfSome, slice_index_or}
 use Rattle.std.proofs.lemmas.List.{length-append, length-map}
 
@@ -31,3 +31,8 @@ pub job_there : {T : Type 0} (seats : List T) (i : ℕ) → i < length seats
 job_there {T = T} seats i low =
     let all = length-append (map (λ (seat : T). Some seat) seats) (None ∷ []) in
     let each = length-map seats (λ (seat : T). Some seat) in omega (arith, low, all, each)
+
+-- an answer that is true
+pub ok_true : {E : Type 0} (b : Bool) → ◌≡◌ {A = Result Bool E} (Ok b) (Ok true) → b ≡ true
+ok_true true e = refl
+ok_true false e = absurd cc

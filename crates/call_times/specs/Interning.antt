@@ -19,6 +19,10 @@ pub record IsReadyToIntern (d : DomainState DirectoryLaw) (s : SeatState View) :
 abbrev pub HasLeft : ℕ → SeatState View → Type 0
 HasLeft n s = s.view.client.used + n ≤ s.view.client.quota
 
+-- it has used so many interns
+abbrev pub HasInterned : ℕ → SeatState View → Type 0
+HasInterned n s = n ≤ s.view.client.used
+
 -- it is ready, and has used no more interns than it has
 abbrev pub IsFreeToIntern : DomainState DirectoryLaw → SeatState View → Type 0
 IsFreeToIntern d s = IsReadyToIntern d s × HasLeft 0 s

@@ -23,7 +23,8 @@ impl Tenths {
     }
 }
 
-/// The wall time of one turn of the operation, where so many threads make its turns at once.
+/// The wall time of one turn of the operation, where so many threads make its turns at once. No time is told where a
+/// turn was refused.
 pub fn time<R: Threads + Wait + Clock + Sync>(
     rt: &R,
     alloc: Global,
@@ -40,12 +41,15 @@ pub fn time<R: Threads + Wait + Clock + Sync>(
     } = open(alloc, placing, threads)?;
     begin(&domain, &mut root);
     let start = Instant::now(rt)?;
-    in_threads(
+    let all = in_threads(
         rt,
         alloc,
         workers,
         &|seat| make_turns(rt, &domain, seat, operation),
     )?;
     let elapsed = start.elapsed(rt)?;
+    if !all {
+        return Err(Fault::Turns);
+    }
     Ok(Tenths::of_each(elapsed, operation.turns()))
 }

@@ -13,6 +13,8 @@ pub enum Fault {
     Memory(#[from] OutOfMemory),
     #[error("call_times: no queue could be laid")]
     Queue,
+    #[error("call_times: a turn was refused")]
+    Turns,
     #[error("call_times: no clock, or no output")]
     Host(#[from] io::Error),
 }

@@ -12,7 +12,7 @@ use std::thread::Threads;
 use std::time::Instant;
 use turn_loops::Placing;
 
-/// The wall time of one turn, where so many threads push and pop at once.
+/// The wall time of one turn, where so many threads push and pop at once. No time is told where a push was refused.
 pub fn time_queue<R: Threads + Wait + Clock + Sync>(
     rt: &R,
     alloc: Global,
@@ -28,12 +28,15 @@ pub fn time_queue<R: Threads + Wait + Clock + Sync>(
     } = open_queue(alloc, placing, threads)?;
     let queue = begin(rt, &domain, &mut root, threads)?;
     let start = Instant::now(rt)?;
-    in_threads(
+    let all = in_threads(
         rt,
         alloc,
         workers,
         &|seat| make_turns(rt, &domain, seat, queue),
     )?;
     let elapsed = start.elapsed(rt)?;
+    if !all {
+        return Err(Fault::Turns);
+    }
     Ok(Tenths::of_each(elapsed, TURNS))
 }

@@ -1,5 +1,5 @@
 -- A seat that pushes copies of a reference of its own, and drops what it pops, owns that reference still.
-use Rattle.std.proofs.Common.{◌≡◌, ◌∙◌, inl, inr, ℕ, ◌<◌, Bool, true, false, List, [], ◌∷◌, ◌++◌, refl, ap, subst, arith}
+use Rattle.std.proofs.Common.{◌≡◌, ◌∙◌, inl, inr, ℕ, ◌<◌, Bool, true, false, List, [], ◌∷◌, ◌++◌, ◌+◌, length, length-append, refl, ap, subst, arith}
 use Rattle.std.specs.Prelude.{Option, Some, None}
 use Rattle.turn_loops.specs.retiring_stores.Scanning.{Collected}
 use Rattle.turn_loops.specs.slot_store.Reaping.{Answers}
@@ -63,3 +63,7 @@ module _ {P V : Type 0} (fits : List ℕ → Type 0) (d : DomainState P) (old ne
   reaped_owned weight None (inl (none, same)) = ap (λ (s : SeatState V). s.view.core.owned) same
   reaped_owned weight None (inr (none, waits)) = collected_owned waits.collected
   reaped_owned weight (Some answer) reaps = ap (λ (v : CoreView). v.owned) reaps.same
+
+-- a list with one more is one longer
+pub length_push : {A : Type 0} (xs : List A) (x : A) → length (xs ++ x ∷ []) ≡ length xs + 1
+length_push xs x = length-append xs (x ∷ [])

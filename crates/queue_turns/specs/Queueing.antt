@@ -1,5 +1,5 @@
 -- A seat that pushes and pops, before it takes part in the queue and then.
-use Rattle.std.specs.Prelude.{◌≡◌, true}
+use Rattle.std.specs.Prelude.{ℕ, ◌≡◌, ◌+◌, true, length}
 use Rattle.turn_loops.specs.plain_state.declared.slot.SlotId.{SlotId}
 use Rattle.turn_loops.specs.plain_state.Lists.{times}
 use Rattle.turn_loops.specs.core_events.Steps.{HasRoom}
@@ -28,3 +28,7 @@ pub record IsReadyToQueue (d : DomainState QueueLaw) (s : SeatState View) : Type
 abbrev pub OwnsAsMuch : SeatState View → SeatState View → Type 0
 OwnsAsMuch old new =
     (x : SlotId) → times x new.view.core.owned ≡ times x old.view.core.owned
+
+-- it has pushed n items more
+abbrev pub HasPushed : ℕ → View → View → Type 0
+HasPushed n v w = length w.pushed ≡ length v.pushed + n

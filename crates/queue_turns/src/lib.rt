@@ -5,7 +5,8 @@
 //! these references, and makes its turns with the item: `make_turns`.
 //!
 //! The rule that is kept is that of the domain, with the queue's law. It is proved that each call is one that its seat
-//! may make, and which seat each thread has. Nothing is said of times, nor of how many pushes succeed.
+//! may make, which seat each thread has, and that a seat which `make_turns` answers has pushed an item in each turn.
+//! Nothing is said of times.
 //!
 //! ```text
 //! let OpenedQueue { domain, mut root, workers } = open_queue(alloc, Placing::Spaced, threads)?;

@@ -1,3 +1,4 @@
 pub mod Below
 pub mod Copying
+pub mod Counting
 pub mod Placings

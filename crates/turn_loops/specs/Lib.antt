@@ -9,3 +9,4 @@ pub use Rattle.slot_store.specs as slot_store
 pub mod Free
 pub mod Placings
 pub mod Trials
+pub mod Turns

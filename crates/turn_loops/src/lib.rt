@@ -4,8 +4,9 @@
 //! threads write one cache line, or seats side by side. `begin` puts an object into the cell, and `make_turns` makes
 //! the turns of one thread.
 //!
-//! The rule that is kept is that of the domain. It is proved that each call is one that its seat may make, and which
-//! seat each thread has. Nothing is said of times, nor of what the cell holds.
+//! The rule that is kept is that of the domain. It is proved that each call is one that its seat may make, which seat
+//! each thread has, and that a seat which `make_turns` answers has made all turns: it has used an add or a make for
+//! each, or made four steps. Nothing is said of times, nor of what the cell holds.
 //!
 //! ```text
 //! let Opened { domain, mut root, workers } = open(alloc, Placing::Spaced, threads)?;

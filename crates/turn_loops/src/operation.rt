@@ -1,5 +1,6 @@
 //! The operations that are timed.
-ghost use Rattle.std.specs.Prelude.{◌<◌};
+ghost use Rattle.std.specs.Prelude.{◌≡◌};
+ghost use Rattle.turn_loops.specs.Turns.{turns_of};
 
 /// What a thread does in each of its turns.
 #[derive(Clone, Copy, PartialEq, Eq, Debug, Drop)]
@@ -43,7 +44,7 @@ impl Operation {
 
     /// How many turns a thread makes: fewer where a turn makes an object.
     pub fn turns(self) -> u64
-        ensures { 0 < result }
+        ensures { result ≡ turns_of self }
     {
         match self {
             Operation::Store | Operation::MakeDrop => 250_000,

@@ -1,6 +1,11 @@
 use Rattle.slot_store.specs.core_events.Steps.{HasRoom}
 use Rattle.slot_store.specs.control_word.Resting.{IsAtRest}
+use Rattle.turn_loops.specs.Turns.{MadeSteps}
 use Rattle.turn_loops.proofs.strong_turns.snapshots.Given as goal
 
 abbrev pub invariant-loop-turn : goal.invariant-loop-turn
-invariant-loop-turn g l = IsAtRest l.domain l.seat × HasRoom l.seat.view.core
+invariant-loop-turn g l = record {
+  rest : IsAtRest l.domain l.seat;
+  room : HasRoom l.seat.view.core;
+  turns : MadeSteps l._turn l.initial.seat.view.core l.seat.view.core;
+}

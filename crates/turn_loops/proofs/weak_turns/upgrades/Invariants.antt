@@ -1,9 +1,0 @@
-use Rattle.slot_store.specs.core_events.Steps.{HasRoom}
-use Rattle.slot_store.specs.control_word.Resting.{IsAtRest}
-use Rattle.std.specs.Prelude.{◌<◌}
-use Rattle.snapshot_ptr.specs.plain_state.Lists.{times}
-use Rattle.turn_loops.proofs.weak_turns.upgrades.Given as goal
-
-abbrev pub invariant-loop-turn : goal.invariant-loop-turn
-invariant-loop-turn g l = IsAtRest l.domain l.seat × HasRoom l.seat.view.core
-    × (0 < times l.weak.slot l.seat.view.core.weaks)
