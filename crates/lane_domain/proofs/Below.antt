@@ -3,6 +3,7 @@ pub use Rattle.lane_files.proofs.Below.directory_calls_Going as directory_calls_
 pub use Rattle.lane_files.proofs.Below.directory_calls_Learnt as directory_calls_Learnt
 pub use Rattle.lane_files.proofs.Copied as lane_files_Copied
 pub use Rattle.lane_files.proofs.Giving as lane_files_Giving
+pub use Rattle.lane_files.proofs.Missing as lane_files_Missing
 pub use Rattle.lane_files.proofs.Offered as lane_files_Offered
 pub use Rattle.lane_files.proofs.Owning as lane_files_Owning
 pub use Rattle.lane_files.proofs.PiecesCounted as lane_files_PiecesCounted

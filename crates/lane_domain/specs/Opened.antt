@@ -7,6 +7,7 @@ use Rattle.lane_files.specs.core_events.declared.shape.Quota.{Quota}
 use Rattle.lane_files.specs.core_events.declared.shape.Shape.{Shape}
 use Rattle.lane_files.specs.core_events.Views.{Terms, no_notes}
 use Rattle.lane_files.specs.core_events.Words.{each_from}
+use Rattle.lane_files.specs.acquire_retire.Calls.{IsOf}
 use Rattle.lane_files.specs.acquire_retire.Domains.{DomainState}
 use Rattle.lane_files.specs.acquire_retire.Openings.{begun_seat}
 use Rattle.lane_files.specs.acquire_retire.Seats.{SeatState}
@@ -24,6 +25,7 @@ use Rattle.lane_files.specs.words_protocol.Sides.{area_of, ends_of}
 use Rattle.lane_files.specs.words_protocol.declared.law.WordsLaw.{WordsLaw}
 use Rattle.lane_files.specs.declared.work.Work.{Work}
 use Rattle.lane_files.specs.slot_store.Searching.{Misses}
+use Rattle.lane_files.specs.Missing.{HasMissed}
 use Rattle.lane_files.specs.Whys.{of_queue, queue_of}
 use Rattle.lane_domain.specs.declared.opened.OpenLanesError.{OpenLanesError}
 use Rattle.lane_domain.specs.declared.opened.OpenLanesError.TheVariants as refused
@@ -114,10 +116,11 @@ module _ (fits : List ℕ → Type 0) where
   abbrev pub FindsNoSlot : DomainState WordsLaw → SeatState View → Type 0
   FindsNoSlot d root = Misses fits (queue_of d) (of_queue (fresh_seat d 0)) (of_queue root)
 
-  -- Why nothing was opened: there was no memory; or seat 0 of the domain found each slot taken, which can't be where
-  -- there is a slot for each make.
+  -- Why nothing was opened: there was no memory; or seat 0 of the domain found each slot taken, as its trail shows,
+  -- which can't be where there is a slot for each make.
   abbrev pub IsWhyNotOpened : Work → ℕ → ℕ → Form → OpenLanesError → Type 0
   IsWhyNotOpened work lanes slots form refused.OutOfMemory = Unit {0}
   IsWhyNotOpened work lanes slots form (refused.Full unlaid) =
       IsDomainFor work lanes slots form unlaid.domain × FindsNoSlot unlaid.domain unlaid.root
       × (slots < work.rounds * (all_pieces work + all_parts work) + 2)
+      × IsOf unlaid.domain unlaid.root × HasMissed unlaid.domain.shape unlaid.root

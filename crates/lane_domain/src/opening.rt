@@ -1,6 +1,7 @@
 //! How a domain is opened for lanes.
 ghost use Rattle.std.specs.Prelude.{◌≡◌, ◌≤◌, ◌<◌, ◌*◌, ◌∷◌, IfErr, IfOk, OnErr, OnOk, replicate};
 ghost use Rattle.lane_files.specs.plain_state.Limits.{most_slots};
+ghost use Rattle.lane_files.specs.acquire_retire.Calls.{IsOf};
 ghost use Rattle.lane_files.specs.claim_law.Claims.{makes_given};
 ghost use Rattle.lane_files.specs.Ready.{IsReady};
 ghost use Rattle.lane_files.specs.Lanes.{HasGrants};
@@ -132,6 +133,7 @@ fn lay(
     ensures missed { OnErr result (FindsNoSlot
         ⟦<PairKind<NodeKind, RecordKind> as PayloadKind>⟧.fits domain.now root.new) }
     ensures slots { OnErr result (domain.now.shape.slots < makes_given domain.now.terms) }
+    ensures of_domain { OnErr result (IsOf domain.now root.new) }
 {
     let queue = AnyQueue::lay::<Left, WordsLaw>(domain, root, form, HEAD, TAIL)?;
     Ok(Shared {
@@ -145,8 +147,8 @@ fn lay(
 /// piece.
 ///
 /// It is refused where there is no memory; and `Full` only where there are fewer slots than the lanes may make objects,
-/// and two: then the domain comes back with its seat 0. It takes all the memory that the domain ever needs. Linear in
-/// the slots and in the pieces of all rounds.
+/// and two: then the domain comes back with its seat 0, whose trail shows that each slot was taken. It takes all the
+/// memory that the domain ever needs. Linear in the slots and in the pieces of all rounds.
 pub fn open_lanes(
     alloc: Global,
     work: &Work,

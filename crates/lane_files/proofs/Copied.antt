@@ -1,6 +1,8 @@
 -- A reference that is copied before it is pushed.
-use Rattle.std.proofs.Common.{◌≡◌, ◌⊎◌, inl, inr, ⊎_elim, ℕ, ◌<◌, List, [], ◌∷◌, ◌++◌, refl, sym, ap, subst, arith, ◌≤◌, ◌+◌}
+use Rattle.std.proofs.Common.{◌≡◌, ◌⊎◌, inl, inr, ⊎_elim, ℕ, ◌<◌, List, [], ◌∷◌, ◌++◌, refl, sym, ap, subst, ◌∙◌, arith, ◌≤◌, ◌+◌}
 use Rattle.std.specs.Prelude.{Err, Ok, OnErr, OnOk, Result}
+use Rattle.std.specs.List.{flat_map}
+use Rattle.std.proofs.lemmas.List.{append-nil, flat_map_more}
 use Rattle.control_word.specs.plain_state.Lists.{times}
 use Rattle.control_word.specs.core_events.Views.{without}
 use Rattle.hand_queues.proofs.Below.protected_loads_Telling.{holds_has}
@@ -10,12 +12,12 @@ use Rattle.hand_queues.specs.linked_queue.Queues.{IsAttached}
 use Rattle.hand_queues.specs.slot_store.declared.making.MakeError.{MakeError}
 use Rattle.words_protocol.specs.words_law.Known.{ForgetsNothing}
 use Rattle.lane_files.specs.Passed.{Counts, UsesInterns}
-use Rattle.lane_files.specs.Whys.{IsWhyCopyStays, IsWhyNotOffered}
+use Rattle.lane_files.specs.Whys.{IsWhyCopyStays, IsWhyNotOffered, OnlyDrops}
 use Rattle.control_word.specs.plain_state.declared.slot.SlotId.{SlotId}
 use Rattle.control_word.specs.acquire_retire.Calls.{IsSameView, same_view}
 use Rattle.control_word.specs.acquire_retire.Domains.{DomainState}
 use Rattle.control_word.specs.acquire_retire.Seats.{SeatState}
-use Rattle.control_word.specs.Calls.{DropsStrong, GainsStrong, with_strong, without_strong}
+use Rattle.control_word.specs.Calls.{DropsStrong, GainsStrong, dropped_by, with_strong, without_strong}
 use Rattle.control_word.specs.Moves.{KnowsStill}
 use Rattle.control_word.specs.core_events.Steps.{HasRoom}
 use Rattle.control_word.specs.Resting.{IsAtRest, IsSpent}
@@ -30,6 +32,7 @@ use Rattle.words_protocol.specs.declared.law.WordsLaw.{WordsLaw}
 use Rattle.lane_files.specs.Ready.{IsReady, Owns, Shared}
 use Rattle.lane_files.proofs.SeatsKept.{gave_item, owns_back, owns_by, ready_by, uses_none, uses_then}
 use Rattle.control_word.specs.core_events.declared.view.CoreView.{CoreView}
+use Rattle.control_word.specs.core_events.declared.view.Move.{Move}
 use Rattle.lane_files.proofs.Offered.{texts}
 
 -- what a seat knows of the text of s, by its view and by the life and the payload of s
@@ -129,12 +132,34 @@ back_owns fits d t u a b c e r error bad is own first kept drops knows =
     owns_back t a.view.core.owned a b e first
     (subst (λ (x : SlotId). Owns (without x b.view.core.owned) b e) is last) (λ x. refl)
 
+-- DROPS of references to one slot, one after the other
+pub no_drop : (s : SlotId) (a : SeatState View) → OnlyDrops s a a
+no_drop s a = ([], sym (append-nil a.view.core.trail))
+
+pub drop_then : (fits : List ℕ → Type 0) (d : DomainState WordsLaw) (s t : SlotId) → t ≡ s
+    → (a b c : SeatState View) → OnlyDrops s a b → DropsStrong fits d t b c → OnlyDrops s a c
+drop_then fits d s t is a b c first drops =
+    let how = drops.0 in
+    let more = ap (λ (v : CoreView). v.trail) drops.1.core in
+    let all = ap (λ (ms : List Move). ms ++ dropped_by t how) first.1 in
+    let same = ap (λ (x : SlotId). (a.view.core.trail ++ flat_map (dropped_by s) first.0) ++ dropped_by x how)
+    is in (
+      first.0 ++ how ∷ [],
+      more ∙ all ∙ same ∙ flat_map_more (dropped_by s) a.view.core.trail first.0 how,
+    )
+
 pub copy_stays : (fits : List ℕ → Type 0) (d : DomainState WordsLaw) (s : SlotId)
     (a b c e : SeatState View) → GainsStrong fits d same_view IsSameView s a b → (why : MakeError)
-    → IsWhyNotOffered fits d why b c → (IsSpent c.view.core → IsSpent e.view.core)
+    → IsWhyNotOffered fits d why b c → OnlyDrops s c e → (IsSpent c.view.core → IsSpent e.view.core)
     → IsWhyCopyStays fits d s why a e
-copy_stays fits d s a b c e gains why not spent =
-    record { copied = b; refused = c; copies = gains; not_offered = not; spent = spent }
+copy_stays fits d s a b c e gains why not ends spent = record {
+  copied = b;
+  refused = c;
+  copies = gains;
+  not_offered = not;
+  ends = ends;
+  spent = spent;
+}
 
 -- MAKES AND ADDS of a copy, a push and a drop
 copied_adds : (fits : List ℕ → Type 0) (d : DomainState WordsLaw) (s : SlotId) (a b : SeatState View)

@@ -19,6 +19,7 @@ pub mod Giving
 pub mod Keeping
 pub mod Kept
 pub mod Making
+pub mod Missing
 pub mod Nexts
 pub mod Owning
 pub mod Pieces

@@ -6,6 +6,7 @@ use Rattle.control_word.specs.plain_state.Lists.{times}
 use Rattle.control_word.proofs.Below.core_law_Kit.{one_same, times_push}
 use Rattle.control_word.specs.acquire_retire.Domains.{DomainState}
 use Rattle.control_word.specs.acquire_retire.Seats.{SeatState}
+use Rattle.control_word.specs.Calls.{DropsStrong}
 use Rattle.control_word.specs.Resting.{IsSpent}
 use Rattle.control_word.specs.domain_rule.Views.{object_in}
 use Rattle.std.proofs.lemmas.List.Elements.{All-from_get_or}
@@ -23,9 +24,10 @@ use Rattle.lane_files.specs.Ready.{Owns}
 use Rattle.lane_files.specs.declared.refusal.LaneError.{LaneError}
 use Rattle.lane_files.specs.declared.refusal.LaneError.TheVariants as lane
 use Rattle.lane_files.specs.Whys.{FindsNoItem, IsWhyNotTaken}
-use Rattle.lane_files.proofs.Copied.{knows_still}
+use Rattle.lane_files.proofs.Copied.{drop_then, knows_still}
 use Rattle.lane_files.proofs.PiecesCounted.{takes_later, takes_then}
 use Rattle.lane_files.proofs.Offered.{texts}
+use Rattle.lane_files.proofs.SeatsKept.{spent_drop}
 
 -- what holds where a call wasn't refused, of one that wasn't
 pub ok_unless : {T E P : Type 0} (r : Result T E) → ((error : E) → ¬ (r ≡ Err error)) → OnOk r P → P
@@ -92,9 +94,12 @@ module _ (fits : List ℕ → Type 0) (d : DomainState WordsLaw) where
 
     -- it stopped there, and gave the record up
     module _ (c e : SeatState View) (same : e.view.client ≡ c.view.client)
-        (spent : IsSpent c.view.core → IsSpent e.view.core) (before after : List (List ℕ × ℕ))
+        (drops : DropsStrong fits d s c e) (before after : List (List ℕ × ℕ))
         (error : PieceError) (why : (text : Text) → Knows texts s text b
         → IsWhyNotPassed fits d (text_bytes text) s error b c before after) where
+      spent : IsSpent c.view.core → IsSpent e.view.core
+      spent = spent_drop fits d s c e drops
+
       why_last : IsWhyNotPassed fits d piece s error b c before after
       why_last = subst (λ (w : List ℕ). IsWhyNotPassed fits d w s error b c before after) bytes
           (why known.0 known.2)
@@ -114,6 +119,7 @@ module _ (fits : List ℕ → Type 0) (d : DomainState WordsLaw) where
                   refused = made.refused;
                   copies = made.copies;
                   not_offered = made.not_offered;
+                  ends = drop_then fits d s s refl made.refused c e made.ends drops;
                   spent = λ x. spent (made.spent x);
                 }))
                 is.0,

@@ -37,6 +37,7 @@ pub mod FilePieces
 pub mod Keeping
 pub mod Lanes
 pub mod Makes
+pub mod Missing
 pub mod Owning
 pub mod Next
 pub mod Work

@@ -1,10 +1,12 @@
 -- Why nothing was pushed or popped.
-use Rattle.std.specs.Prelude.{◌≡◌, ◌⊎◌, ℕ, None, List, [], ◌∷◌}
+use Rattle.std.specs.Prelude.{◌≡◌, ◌⊎◌, ℕ, None, List, [], ◌∷◌, ◌++◌}
+use Rattle.std.specs.List.{flat_map}
 use Rattle.control_word.specs.plain_state.declared.slot.SlotId.{SlotId}
+use Rattle.control_word.specs.acquire_retire.declared.payment.Payment.{Payment}
 use Rattle.control_word.specs.acquire_retire.Calls.{IsSameView, same_view}
 use Rattle.control_word.specs.acquire_retire.Domains.{DomainState}
 use Rattle.control_word.specs.acquire_retire.Seats.{SeatState}
-use Rattle.control_word.specs.Calls.{GainsStrong}
+use Rattle.control_word.specs.Calls.{GainsStrong, dropped_by}
 use Rattle.control_word.specs.Resting.{IsSpent}
 use Rattle.words_protocol.specs.cdrc_text.Tally.{count_of}
 use Rattle.hand_queues.specs.part_calls.Parts.{as_part, seen_by}
@@ -26,18 +28,26 @@ queue_of d = as_part (λ (it : WordsLaw). it.pair.left) d
 abbrev pub of_queue : SeatState View → SeatState QueueView
 of_queue seat = seen_by (λ (v : View). v.0) seat
 
+-- Between the two states the seat gave up references to s, and did nothing else: its trail goes on by these drops
+-- alone.
+abbrev pub OnlyDrops : SlotId → SeatState View → SeatState View → Type 0
+OnlyDrops s old new =
+    (drops : List Payment)
+    × (new.view.core.trail ≡ old.view.core.trail ++ flat_map (dropped_by s) drops)
+
 module _ (fits : List ℕ → Type 0) (d : DomainState WordsLaw) where
   -- why a record wasn't pushed: no make was left, or no slot was free, or the seat has no add left by now
   abbrev pub IsWhyNotOffered : MakeError → SeatState View → SeatState View → Type 0
   IsWhyNotOffered why old new = IsWhyNeverPushed fits (queue_of d) why (of_queue old) (of_queue new)
 
-  -- The seat counted one reference more to s, which then wasn't pushed, and was given up. Where no add was left then,
-  -- none is.
+  -- The seat counted one reference more to s, which then wasn't pushed. After that it has but given up references to s,
+  -- so this push was its last one. Where no add was left then, none is.
   pub record IsWhyCopyStays (s : SlotId) (why : MakeError) (old new : SeatState View) : Type 0 where
     pub copied : SeatState View
     pub refused : SeatState View
     pub copies : GainsStrong fits d same_view IsSameView s old copied
     pub not_offered : IsWhyNotOffered why copied refused
+    pub ends : OnlyDrops s refused new
     pub spent : IsSpent refused.view.core → IsSpent new.view.core
 
   -- why no copy of s was pushed: no add was left for it, and none is, or it was made and wasn't pushed

@@ -13,6 +13,7 @@ ghost use Rattle.lane_files.specs.declared.refusal.LaneStop.{LaneStop};
 ghost use Rattle.lane_files.specs.declared.work.Work.{Work};
 ghost use Rattle.lane_files.specs.Lanes.{StopsLane};
 ghost use Rattle.lane_files.specs.Makes.{GrantsMakes, HasItsMakes, cause_of};
+ghost use Rattle.lane_files.specs.Missing.{HasMissed};
 ghost use Rattle.lane_files.specs.Owning.{OwnsNoNode};
 ghost use Rattle.lane_files.specs.Scans.{HasScanned};
 
@@ -34,6 +35,15 @@ pub fn full_domains_lack_slots()
         (old new : SeatState View) (before after : Lane)
         → StopsLane ⟦<PairKind<NodeKind, RecordKind> as PayloadKind>⟧.fits d work stop old new
         before after → cause_of stop ≡ Some unmade.Full → d.shape.slots < makes_given d.terms }
+{}
+
+/// Where a lane stops since each slot was found taken, it is its own seat that found that: the seat's trail has the
+/// search, in which each slot of the domain was shown taken.
+pub fn full_lanes_have_missed()
+    ensures { (d : DomainState WordsLaw) (work : Work) (stop : LaneStop)
+        (old new : SeatState View) (before after : Lane)
+        → StopsLane ⟦<PairKind<NodeKind, RecordKind> as PayloadKind>⟧.fits d work stop old new
+        before after → cause_of stop ≡ Some unmade.Full → HasMissed d.shape new }
 {}
 
 /// Where a lane that had pushed nothing stops since each slot was found taken, it has made at least as many whole scans

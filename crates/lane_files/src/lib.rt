@@ -48,7 +48,10 @@ pub use lane_gate::{
     FileFault, Files, Gate, HonestFiles, HonestSink, HostFiles, HostSink, Meet, MemFiles, MemSink,
     Open, Sink, SinkFault,
 };
-pub use laws::{full_domains_lack_slots, lanes_have_makes};
+pub use laws::{
+    full_domains_lack_slots, full_lanes_have_missed, full_lanes_have_scanned,
+    full_lanes_own_no_node, lanes_have_makes,
+};
 pub use offering::offer;
 pub use piece::count_piece;
 pub use refusal::{FileError, LaneError, LaneStop, PieceError};

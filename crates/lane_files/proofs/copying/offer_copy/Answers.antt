@@ -1,8 +1,8 @@
-use Rattle.std.proofs.Common.{[], inr, refl, ap, subst, sym, arith}
+use Rattle.std.proofs.Common.{[], inr, refl, ap, subst, sym, ◌∙◌, arith}
 use Rattle.control_word.specs.counted_handles.Handles.{Handle}
 use Rattle.words_protocol.specs.words_law.Views.{View}
 use Rattle.lane_files.specs.Passed.{Counts}
-use Rattle.lane_files.proofs.Copied.{back_owns, copy_counts, copy_interns, copy_known, copy_owns, copy_ready, copy_stays, owns_copy, copy_makes, copy_adds}
+use Rattle.lane_files.proofs.Copied.{back_owns, copy_counts, copy_interns, copy_known, copy_owns, copy_ready, copy_stays, drop_then, no_drop, owns_copy, copy_makes, copy_adds}
 use Rattle.lane_files.proofs.PiecesCounted.{counts_none}
 use Rattle.lane_files.proofs.Offered.{texts}
 use Rattle.lane_files.proofs.SeatsKept.{owns_drop, uses_none, drop_counts, spent_drop}
@@ -79,6 +79,10 @@ returns-in-Err-clause-why g c =
     inr (copy_stays _ c.args.domain.now c.args.handle.now.slot c.args.seat.now
     c.copy_strong.new.seat c.offer.new.seat c.drop_strong.new.seat c.in-Ok.ensures.copied.1
     c.in-Err.refused.why c.in-Err.ensures.why
+    (drop_then _ c.args.domain.now c.args.handle.now.slot c.in-Err.refused.back.slot
+    (ap (λ (h : Handle). h.slot) c.in-Err.ensures.back ∙ c.in-Ok.ensures.copied.0)
+    c.offer.new.seat c.offer.new.seat c.drop_strong.new.seat
+    (no_drop c.args.handle.now.slot c.offer.new.seat) c.drop_strong.ensures.dropped)
     (spent_drop _ c.args.domain.now c.in-Err.refused.back.slot c.offer.new.seat
     c.drop_strong.new.seat c.drop_strong.ensures.dropped))
 

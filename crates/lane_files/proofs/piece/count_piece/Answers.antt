@@ -5,7 +5,7 @@ use Rattle.words_protocol.specs.words_law.Views.{View}
 use Rattle.lane_files.specs.Passed.{UsesInterns}
 use Rattle.lane_files.specs.PieceMakes.{cause_in}
 use Rattle.lane_files.proofs.Copied.{copy_ready}
-use Rattle.lane_files.proofs.SeatsKept.{owns_back, owns_drop, owns_on, spent_drop, uses_then, drop_counts}
+use Rattle.lane_files.proofs.SeatsKept.{owns_back, owns_drop, owns_on, uses_then, drop_counts}
 use Rattle.lane_files.proofs.Passed.{had_more, piece_counts, piece_knows, piece_steps, piece_stops, piece_used, same_record, still_more}
 use Rattle.lane_files.proofs.Unmade.{allows_same, intern_lacks, lacks_on}
 use Rattle.lane_files.proofs.piece.count_piece.Goals as goal
@@ -61,8 +61,7 @@ returns-in-Err-pass_on-clause-why g c =
     piece_stops _ c.args.domain.now c.args.piece.now (λ i. omega (arith, c.type_inv.piece i))
     c.in-Ok.handle.slot c.args.seat.now c.intern_piece.new.seat c.in-Ok.ensures.first
     c.in-Ok.ensures.knows c.pass_on.new.seat c.drop_strong.new.seat c.drop_strong.ensures.client
-    (spent_drop _ c.args.domain.now c.in-Ok.handle.slot c.pass_on.new.seat
-    c.drop_strong.new.seat c.drop_strong.ensures.dropped)
+    c.drop_strong.ensures.dropped
     c.args.tally.now c.pass_on.new.tally c.in-Err-pass_on.error c.in-Err-pass_on.ensures.why
 
 pub returns-in-Err-pass_on-clause-interns : goal.returns-in-Err-pass_on-clause-interns
@@ -72,8 +71,7 @@ returns-in-Err-pass_on-clause-interns g c =
     (λ i. omega (arith, c.type_inv.piece i))
     c.in-Ok.handle.slot c.args.seat.now c.intern_piece.new.seat c.in-Ok.ensures.first
     c.in-Ok.ensures.knows c.pass_on.new.seat c.drop_strong.new.seat c.drop_strong.ensures.client
-    (spent_drop _ c.args.domain.now c.in-Ok.handle.slot c.pass_on.new.seat
-    c.drop_strong.new.seat c.drop_strong.ensures.dropped)
+    c.drop_strong.ensures.dropped
     c.args.tally.now c.pass_on.new.tally c.in-Err-pass_on.error c.in-Err-pass_on.ensures.why))
     (subst (λ (v : View). UsesInterns 1 c.args.seat.now.view.client v)
     (sym c.drop_strong.ensures.client)
