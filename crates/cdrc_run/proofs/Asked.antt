@@ -10,7 +10,7 @@ use Rattle.command_line.specs.run_requests.declared.asked.Request.{Request}
 use Rattle.command_line.specs.run_requests.declared.asked.Request.TheVariants as request
 use Rattle.cdrc_run.specs.declared.outcome.End.{End}
 use Rattle.cdrc_run.specs.Ends.{Ends, SinkRun, SourceRun}
-use Rattle.cdrc_run.specs.Jobs.{AreInRange, AsksJob, HasRanges, Job, bulk, draw, job_of, script, steps}
+use Rattle.cdrc_run.specs.Jobs.{AreInRange, AsksJob, HasRanges, HasTooManyFiles, Job, bulk, draw, job_of, script, steps}
 use Rattle.command_line.proofs.OneRequest.{one_request}
 
 number_within : (default least most : ℕ) (values : List Text) (n : ℕ) → least ≤ default
@@ -70,7 +70,12 @@ job_is_one line a b first second =
     sym first.2 ∙ same_job first.0 second.0 (one_request line first.0 second.0 first.1 second.1)
     ∙ second.2
 
--- so what holds of one holds of the other
+-- so what is asked for of one is asked for of the other
+pub many_as_asked : (line : List Text) (a b : Job) → AsksJob line a → AsksJob line b
+    → HasTooManyFiles b → HasTooManyFiles a
+many_as_asked line a b first second many = subst HasTooManyFiles (job_is_one line b a second first) many
+
+-- and what holds of one holds of the other
 pub ends_as_asked : {fits : List ℕ → Type 0} {source : SourceRun} {sink : SinkRun} {end : End}
     (line : List Text) (a b : Job) → AsksJob line a → AsksJob line b
     → Ends fits a source sink end → Ends fits b source sink end

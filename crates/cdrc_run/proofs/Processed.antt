@@ -20,3 +20,7 @@ module _ (fits : List ℕ → Type 0) (line : List (List ℕ)) (source : SourceR
   -- its status is that of the run
   pub ends_with : (status : ℕ) → status ≡ end.status → EndsRun fits line source sink status
   ends_with status same = subst (EndsRun fits line source sink) (sym same) ends_run
+
+pub many_with : (run status : ℕ) → status ≡ run → (run ≡ 5) ⊎ (run ≡ 9)
+    → (status ≡ 5) ⊎ (status ≡ 9)
+many_with run status same is = subst (λ (n : ℕ). (n ≡ 5) ⊎ (n ≡ 9)) (sym same) is

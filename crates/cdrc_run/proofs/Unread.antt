@@ -1,5 +1,6 @@
 -- The ends of runs that have no output.
-use Rattle.std.proofs.Common.{◌≡◌, ℕ, ◌⊎◌, inl, inr, List, arith}
+use Rattle.std.proofs.Common.{◌≡◌, ℕ, ◌⊎◌, inl, inr, List, Err, subst, arith}
+use Rattle.std.specs.declared.result.Result.{Result}
 use Rattle.cdrc_scripts.specs.acquire_retire.Seats.{SeatState}
 use Rattle.words_work.specs.words_law.Views.{View}
 use Rattle.words_work.specs.lane_gate.Causes.{Rose}
@@ -146,3 +147,10 @@ status_refused refused.TooLarge end ends = inr (inr (inr (inr (inl ends.0))))
 status_refused (refused.Full seat) end ends = inr (inr (inr (inr (inr (inl ends.0)))))
 status_refused (refused.Spent seat) end ends = inr (inr (inr (inr (inr (inr (inl ends.0))))))
 status_refused refused.OutOfMemory end ends = inr (inr (inr (inr (inr (inr (inr (inr ends.0)))))))
+
+-- what is too large ends with 5
+pub five_where_large : {T : Type 0} (r : Result T WordsRefused) (error : WordsRefused) (end : End)
+    → r ≡ Err error → r ≡ Err refused.TooLarge → IsRefusedEnd error end → end.status ≡ 5
+five_where_large r error end was large ends =
+    let is : error ≡ refused.TooLarge = cc in
+    (subst (λ (e : WordsRefused). IsRefusedEnd e end) is ends).0

@@ -43,6 +43,10 @@ names_in (steps file) = file ∷ []
 names_in (draw draws) = []
 names_in (bulk drawn) = []
 
+-- there are too many of them
+abbrev pub HasTooManyFiles : Job → Type 0
+HasTooManyFiles job = words.most_files < length (names_in job)
+
 -- the most words that are drawn, of the most that a vocabulary has; and where two texts are drawn, of each
 abbrev pub most_drawn : ℕ
 most_drawn = 1000000

@@ -1,7 +1,7 @@
 //! What each job writes.
 ghost use Rattle.std.specs.Prelude.{◌≡◌, ◌≤◌, IfErr, IfOk, List, ℕ, length};
 ghost use Rattle.cdrc_run.specs.Jobs as jobs;
-ghost use Rattle.cdrc_run.specs.Jobs.{HasRanges, job_of};
+ghost use Rattle.cdrc_run.specs.Jobs.{HasRanges, HasTooManyFiles, job_of};
 ghost use Rattle.cdrc_run.specs.Outputs.{IsOutputOf, IsWhyNoOutput, evidence};
 
 use crate::drawing::{count_drawn, draw_words};
@@ -16,7 +16,8 @@ use words_work::{
     Files, Gate, MOST_BYTES, NodeKind, RecordKind, WordsDone, WordsRefused, read_file, words_work,
 };
 
-/// The output of what the words of the command line ask for. It may wait for other threads.
+/// The output of what the words of the command line ask for. Too many files are refused before any is read. It may wait
+/// for other threads.
 pub(crate) fn output_of<R: Threads + Wait + Sync, F: Files, G: Gate + Sync>(
     rt: &R,
     alloc: Global,
@@ -35,6 +36,9 @@ pub(crate) fn output_of<R: Threads + Wait + Sync, F: Files, G: Gate + Sync>(
           overlong = F.overlong files.old;
           overlong_now = F.overlong files.new;
         })) }
+    ensures many { HasTooManyFiles (job_of request.now)
+        → result ≡ Err WordsRefused.TooLarge }
+    ensures unread { HasTooManyFiles (job_of request.now) → files.new ≡ files.old }
 {
     match request {
         Request::Words(args) => count_files(rt, alloc, args, files, gate),
@@ -64,6 +68,9 @@ fn count_files<R: Threads + Wait + Sync, F: Files, G: Gate + Sync>(
           overlong = F.overlong files.old;
           overlong_now = F.overlong files.new;
         })) }
+    ensures many { HasTooManyFiles (job_of (Request.Words args.now))
+        → result ≡ Err WordsRefused.TooLarge }
+    ensures unread { HasTooManyFiles (job_of (Request.Words args.now)) → files.new ≡ files.old }
 {
     let weigh: Deleter<PairKind<NodeKind, RecordKind>, _> = Deleter::keep(|payload: &[u64; 16]| {
         <PairKind<NodeKind, RecordKind> as PayloadKind>::weigh(payload)

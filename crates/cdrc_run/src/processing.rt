@@ -1,7 +1,7 @@
 //! A run for a process whose words, files, output and standard error are given.
-ghost use Rattle.std.specs.Prelude.{ℕ, ◌≡◌, ◌≢◌, IfErr, IfOk, OnErr, Option, Some, map, string_bytes};
+ghost use Rattle.std.specs.Prelude.{ℕ, ◌≡◌, ◌≢◌, ◌⊎◌, IfErr, IfOk, OnErr, Option, Some, map, string_bytes};
 ghost use Rattle.cdrc_run.specs.Processes.{EndsRun, EndsUnasked};
-ghost use Rattle.cdrc_run.specs.Jobs.{IsCommand};
+ghost use Rattle.cdrc_run.specs.Jobs.{AsksJob, HasTooManyFiles, IsCommand, Job};
 ghost use Rattle.cdrc_run.specs.Statuses.{IsStatus, line_for};
 
 use crate::explaining::{exit_status, explain};
@@ -83,6 +83,9 @@ pub fn process<R: Threads + Wait + Sync, F: Files, K: Sink, G: Gate + Sync, L: S
     ensures untouched { OnErr words ((files.new ≡ files.old) × (sink.new ≡ sink.old)) }
     ensures unread { IfOk words (λ given. (IsCommand (map string_bytes given.items) → ⊥)
         → files.new ≡ files.old) }
+    ensures many { IfOk words (λ given. (job : Job)
+        → AsksJob (map string_bytes given.items) job → HasTooManyFiles job
+        → ((result ≡ 5) ⊎ (result ≡ 9)) × (files.new ≡ files.old)) }
     ensures told { result ≢ 0 → L.told lines.new ≡ Some result }
     ensures untold { result ≡ 0 → lines.new ≡ lines.old }
 {

@@ -1,7 +1,7 @@
 //! The top call.
 ghost use Rattle.std.specs.Prelude.{◌≡◌, ◌≢◌, ◌⊎◌, map, string_bytes};
 ghost use Rattle.cdrc_run.specs.Ends.{Ends};
-ghost use Rattle.cdrc_run.specs.Jobs.{AsksJob, HasRanges, IsCommand, Job, job_of};
+ghost use Rattle.cdrc_run.specs.Jobs.{AsksJob, HasRanges, HasTooManyFiles, IsCommand, Job, job_of};
 ghost use Rattle.cdrc_run.specs.Statuses.{IsStatus};
 
 use crate::ending::{end_without, refused_end, written_end};
@@ -18,10 +18,11 @@ use words_work::{Files, Gate, NodeKind, RecordKind, Sink};
 /// words, or draws words and counts them. It offers the output to the sink.
 ///
 /// The status is 0 where the work was done; 2 exactly where the words aren't understood; 3 only where the source's
-/// count of faults rose in this call; 4 only where the sink's did; 5 exactly where a limit is passed; 6 only where
-/// `--slots` asks for fewer slots than serve, and a seat found each one taken; 7 where a seat had no add left; 8 where
-/// a line of a script or of steps is refused, which the output's last line tells; 9 where there was no memory, which
-/// may come in place of any. Over a source that doesn't tell a content, what is said of it is said of some content.
+/// count of faults rose in this call; 4 only where the sink's did; 5 exactly where a limit is passed, and for more than
+/// 4,096 files before any is read; 6 only where `--slots` asks for fewer slots than serve, and a seat found each one
+/// taken; 7 where a seat had no add left; 8 where a line of a script or of steps is refused, which the output's last
+/// line tells; 9 where there was no memory, which may come in place of any. Over a source that doesn't tell a content,
+/// what is said of it is said of some content.
 ///
 /// With 0 and 8 the sink took the whole output, with 4 a prefix of it, with 9 a prefix or nothing, and else nothing.
 ///
@@ -58,6 +59,10 @@ pub fn run<R: Threads + Wait + Sync, F: Files, K: Sink, G: Gate + Sync>(
           faults = K.faults sink.old;
           faults_now = K.faults sink.new;
         }) result }
+    ensures many { (job : Job) → AsksJob (map string_bytes words.now) job → HasTooManyFiles job
+        → (result.status ≡ 5) ⊎ (result.status ≡ 9) }
+    ensures unread { (job : Job) → AsksJob (map string_bytes words.now) job
+        → HasTooManyFiles job → files.new ≡ files.old }
 {
     match request(alloc, words) {
         Ok(Some(request)) => do_request(rt, alloc, &request, files, sink, gate),
@@ -93,6 +98,8 @@ fn do_request<R: Threads + Wait + Sync, F: Files, K: Sink, G: Gate + Sync>(
           faults = K.faults sink.old;
           faults_now = K.faults sink.new;
         }) result }
+    ensures many { HasTooManyFiles (job_of request.now) → result.status ≡ 5 }
+    ensures unread { HasTooManyFiles (job_of request.now) → files.new ≡ files.old }
 {
     match output_of(rt, alloc, request, files, gate) {
         Ok(output) => written_end(output, sink),

@@ -16,23 +16,21 @@ use Rattle.words_rest.specs.queue_law.declared.view.View.{View as QueueView}
 use Rattle.words_rest.specs.queue_law.Lists.{taken_items}
 use Rattle.words_rest.specs.words_law.Known.{ForgetsNothing, KnowsMore, KnowsTexts}
 use Rattle.words_rest.specs.words_law.Views.{View}
-use Rattle.words_rest.proofs.Below.words_law_Known.{knows_all_more, knows_both}
-use Rattle.ticket_shares.specs.Tickets.{together}
+use Rattle.words_rest.proofs.Below.words_law_Known.{knows_both}
+use Rattle.tally_sums.specs.cdrc_text.Fold.{times}
+use Rattle.ticket_shares.specs.Tickets.{IsEachOnce, together}
 use Rattle.lane_domain.specs.lane_files.Passed.{KnowsWords, by_seat}
 use Rattle.lane_domain.specs.lane_files.declared.work.Work.{Work}
-use Rattle.lane_domain.specs.lane_files.Work.{words_of_all}
+use Rattle.lane_domain.specs.lane_files.Work.{all_tickets, words_of_all}
 use Rattle.domain_audit.specs.counted_handles.Handles.{Handle}
 use Rattle.lane_reports.specs.declared.done.Done.{Done}
 use Rattle.lane_reports.specs.Deeds.{IsTallyOf}
 use Rattle.lane_reports.specs.Gathering.{DrewTickets, HasGathered, Tally, shares_of, words_popped}
 use Rattle.lane_reports.proofs.Lists.{items_by}
+use Rattle.lane_reports.proofs.Occurring.{sum_work, times_both}
+use Rattle.lane_reports.proofs.Tells.{pops_more, words_more}
 use Rattle.lane_reports.specs.Counting.{CountsAll}
 use Rattle.lane_reports.specs.Taking.{CountsRest}
-
-words_more : (v w : DirectoryView) → KnowsMore v w → (xs : List Item) (words : List (List ℕ))
-    → KnowsWords v xs words → KnowsWords w xs words
-words_more v w more xs words knows =
-    (knows.0, knows_all_more v w more xs knows.0 knows.1, knows.2)
 
 no_items : (v : DirectoryView) (xs : List Item) (ts : List Text) → KnowsTexts v xs ts
     → map text_bytes ts ≡ [] → xs ≡ []
@@ -60,7 +58,8 @@ module _ (work : Work) (done : List Done) (old g t new : SeatState View) (tallie
     (pushed_same : new.view.client.0.pushed ≡ t.view.client.0.pushed)
     (popped_same : new.view.client.0.popped ≡ t.view.client.0.popped)
     (knows : KnowsMore t.view.client.1 new.view.client.1)
-    (left : new.view.core.left_seats ≡ g.view.core.left_seats) where
+    (left : new.view.core.left_seats ≡ g.view.core.left_seats)
+    (once : IsEachOnce (all_tickets work) (together (shares_of got.lanes))) where
   abbrev pushes : List Item
   pushes = rest.takes.counts.pushes
 
@@ -134,4 +133,9 @@ module _ (work : Work) (done : List Done) (old g t new : SeatState View) (tallie
         (words_popped got.lanes) got.items.popped_words)
         (words_more t.view.client.1 new.view.client.1 knows pops rest.takes.words
         rest.takes.counts.popped_words);
+    each = pops_more g.view.client.1 new.view.client.1 more got.lanes got.items.each;
+    own_words = words_more t.view.client.1 new.view.client.1 knows pops rest.takes.words
+        rest.takes.counts.popped_words;
+    once = once;
+    often = λ w. sum_work (times w) refl (times_both w) work (together (shares_of got.lanes)) once;
   }

@@ -1,5 +1,5 @@
 -- What a count of the references to a slot tells, of which a seat that is alone owns one.
-use Rattle.std.proofs.Common.{◌≡◌, ℕ, ◌+◌, ◌<◌, Bool, true, false, List, length, ap, sym, ◌∙◌, subst, refl, arith}
+use Rattle.std.proofs.Common.{◌≡◌, ℕ, ◌+◌, ◌++◌, ◌<◌, Bool, true, false, List, length, ap, sym, ◌∙◌, subst, refl, arith}
 use Rattle.std.specs.Prelude.{◌==◌, IsSome, Some, if◌then◌else◌}
 use Rattle.law_lesson.specs.plain_state.Fits.{AllFit}
 use Rattle.law_lesson.specs.plain_state.declared.slot.SlotId.{SlotId}
@@ -155,6 +155,16 @@ module _ (fits : List ℕ → Type 0) (d : DomainState WordsLaw) (on : Shared) (
         of false by =
             ap (λ (x : SeatState View). (own_of x.view).whole) by.walks.2
             ∙ whole_same by.walks.0 (subst (IsAtRest d) by.walks.2 rest) by.walks.1
+        of true by = absurd (never_again by.walks.0 by.walks.1)
+
+    -- it was one step
+    pub count_trail : new.view.core.trail ≡ old.view.core.trail ++ counted_by s n false
+    count_trail = of counts.again counts.becomes
+      where
+        of : (again : Bool)
+            → Becomes fits d same_view (Lesson d) (counted_by s n again) old.view.core old new
+            → new.view.core.trail ≡ old.view.core.trail ++ counted_by s n false
+        of false by = ap (λ (v : CoreView). v.trail) by.core
         of true by = absurd (never_again by.walks.0 by.walks.1)
 
     pub count_client : new.view.client ≡ old.view.client

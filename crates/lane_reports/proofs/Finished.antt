@@ -23,6 +23,7 @@ use Rattle.words_rest.specs.directory_law.Bytes.{AreBytes, text_bytes}
 use Rattle.words_rest.specs.directory_law.Payloads.{Text}
 use Rattle.tally_sums.specs.cdrc_text.Fold.{File, times as word_times}
 use Rattle.tally_sums.specs.cdrc_text.Tally.{count_of, total_of}
+use Rattle.words_rest.specs.queue_law.declared.view.View.{View as QueueView}
 use Rattle.words_rest.specs.words_law.Known.{KnowsMore}
 use Rattle.words_rest.specs.words_law.Views.{View}
 use Rattle.lane_domain.specs.words_protocol.declared.law.WordsLaw.{WordsLaw}
@@ -42,7 +43,7 @@ use Rattle.lane_reports.specs.Deeds.{LaneDeeds}
 use Rattle.lane_reports.specs.Gathering.{HasGathered, IsBare, Tally, shares_of, words_popped}
 use Rattle.lane_reports.specs.Kept.{lives_in}
 use Rattle.lane_reports.specs.Learning.{LearnsLaw}
-use Rattle.lane_reports.specs.Reporting.{CountWork, HasCounted, KeepsWork}
+use Rattle.lane_reports.specs.Reporting.{CountWork, HasCounted, KeepsWork, LeftNothing}
 use Rattle.lane_reports.specs.Rows.{AreWords}
 use Rattle.lane_reports.specs.Shutting.{ShutsAndSettles}
 use Rattle.lane_reports.specs.Taking.{TakesRest}
@@ -50,7 +51,7 @@ use Rattle.tally_sums.specs.Sums.{Tallies, counted_in}
 use Rattle.lane_reports.proofs.Alike.{all_alike, files_alike}
 use Rattle.lane_reports.proofs.AtRest.{alone_in}
 use Rattle.lane_reports.proofs.Counting.{counts_all}
-use Rattle.lane_reports.proofs.Occurring.{are_words, as_many, as_often, count_work, few_counted, lanes_counted, lanes_total, sum_work, times_both}
+use Rattle.lane_reports.proofs.Occurring.{are_words, as_many, as_often, count_work, few_counted, lanes_counted, lanes_total, left_none, sum_work, times_both}
 use Rattle.lane_reports.proofs.Tells.{as_many as as_many_lanes, files_more}
 
 module _ (fits : List ℕ → Type 0) (d : DomainState WordsLaw) (work : Work) (is : IsWork work)
@@ -130,7 +131,7 @@ module _ (fits : List ℕ → Type 0) (d : DomainState WordsLaw) (work : Work) (
   abbrev tickets : List ℕ
   tickets = together (shares_of got.lanes)
 
-  once : IsEachOnce (all_tickets work) tickets
+  pub once : IsEachOnce (all_tickets work) tickets
   once = once_of got.lanes
       (subst (λ (xs : List LeftSeat). AreLanes (all_tickets work)
       (map (λ (x : LeftSeat). x.tickets) xs) (shares_of got.lanes)) (sym left_same) got.drew.shares)
@@ -155,16 +156,13 @@ module _ (fits : List ℕ → Type 0) (d : DomainState WordsLaw) (work : Work) (
       counts_all work done old g t l counted kept takes.most takes.first got named takes.rest
       (ap (λ (v : View). v.0.pushed) learns.client ∙ ap (λ (v : View). v.0.pushed) shuts.client)
       (ap (λ (v : View). v.0.popped) learns.client ∙ ap (λ (v : View). v.0.popped) shuts.client)
-      knows_same left_same
+      knows_same left_same once
 
   pub all_counts : CountsAll work l tallies
   all_counts = subst (λ (ts : List Tally). CountsAll work l ts) (sym takes.are) base
 
   abbrev popped : List (List ℕ)
   popped = words_popped base.deeds ++ base.words
-
-  base_once : IsEachOnce (all_tickets work) (together (shares_of base.deeds))
-  base_once = once_of base.deeds base.drew.shares
 
   counts : (w : List ℕ) → counted_in tallies w ≡ word_times w popped
   counts w =
@@ -185,7 +183,7 @@ module _ (fits : List ℕ → Type 0) (d : DomainState WordsLaw) (work : Work) (
   pushed_many =
       sym (length-map ts text_bytes) ∙ ap length base.pushed_words.2
       ∙ sum_work (λ xs. length xs) refl (λ xs ys. length-append xs ys) work
-      (together (shares_of base.deeds)) base_once
+      (together (shares_of base.deeds)) base.once
 
   popped_many : length us ≡ length popped
   popped_many = sym (length-map us text_bytes) ∙ ap length base.popped_words.2
@@ -211,6 +209,21 @@ module _ (fits : List ℕ → Type 0) (d : DomainState WordsLaw) (work : Work) (
   abbrev p : Plain
   p = shows d.shape (known_core l.view)
 
+  -- OF THE QUEUE
+  pub left_nothing : LeftNothing l.view.client.0
+  left_nothing = record {
+    shut = ap (λ (v : View). v.0.stand.laid) (learns.client ∙ shuts.client);
+    left = left_none (ends_of d.protocol.pair.left) (area_of d.protocol.pair.right) p
+        learns.law.views learns.law.meets (alone_in fits d l learns.lone rest) l.view.client
+        learns.law.own shut ts us base.pushed_words.1 base.popped_words.1 enough;
+  }
+
+  pub form_same : l.view.client.0.form ≡ old.view.client.0.form
+  form_same =
+      ap (λ (v : View). v.0.form) (learns.client ∙ shuts.client)
+      ∙ ap (λ (q : QueueView). q.form) takes.rest.takes.counts.deeds
+      ∙ ap (λ (q : QueueView). q.form) got.beside.queue
+
   even : (w : List ℕ) → word_times w (map text_bytes ts) ≡ word_times w popped
   even w =
       as_often (ends_of d.protocol.pair.left) (area_of d.protocol.pair.right) p learns.law.views
@@ -228,18 +241,18 @@ module _ (fits : List ℕ → Type 0) (d : DomainState WordsLaw) (work : Work) (
 
   pub counts_work : CountWork work tallies
   counts_work =
-      count_work work (together (shares_of base.deeds)) base_once (map text_bytes ts) popped base.pushed_words.2 even many tallies
+      count_work work (together (shares_of base.deeds)) base.once (map text_bytes ts) popped base.pushed_words.2 even many tallies
       counts
 
   pub counts_words : AreWords tallies
   counts_words =
       are_words work is tallies counts_work
-      (few_counted work (together (shares_of base.deeds)) base_once (map text_bytes ts) popped base.pushed_words.2 even many tallies
+      (few_counted work (together (shares_of base.deeds)) base.once (map text_bytes ts) popped base.pushed_words.2 even many tallies
       counts) few
 
   pub small_files : All (λ (f : File). All AreBytes f) (texts_in work)
   small_files =
-      files_small work (together (shares_of base.deeds)) base_once is.once (map text_bytes ts)
+      files_small work (together (shares_of base.deeds)) base.once is.once (map text_bytes ts)
       base.pushed_words.2 (texts_small ts)
 
   pub all_known : HasCounted work kept tallies l

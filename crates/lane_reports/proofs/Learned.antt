@@ -125,7 +125,8 @@ module _ (fits : List ℕ → Type 0) (d : DomainState WordsLaw) (cell : ℕ) (o
 
   pub learns_law : LearnsLaw fits d old new
   learns_law = record {
-    by = move looks o;
+    cell = cell;
+    saw = o;
     table = step.table;
     core = by.core;
     client = step.told.client;

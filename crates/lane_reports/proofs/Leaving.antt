@@ -52,7 +52,7 @@ use Rattle.lane_reports.specs.Deeds.{LaneDeeds, LaneDid, OwnsJust}
 use Rattle.lane_reports.specs.Gathering.{DrewTickets, HasGathered, HasItems, KeptAlike, StaysBeside, TellsLanes, Tally, beside_lists, beside_taken, each_by, kept_by, shares_of, words_popped}
 use Rattle.lane_reports.specs.Kept.{lives_in}
 use Rattle.lane_reports.proofs.Lists.{each_push, items_by, lanes_push, numbers_push, popped_push, tallies_push, together_push, words_push}
-use Rattle.lane_reports.proofs.Tells.{as_many, files_more, lanes_more, tells_files, tells_push}
+use Rattle.lane_reports.proofs.Tells.{as_many, files_more, lanes_more, pops_more, pops_push, tells_files, tells_push, words_more}
 
 -- what seat 0 has of the references that lanes keep, it has as they had it
 alike_more : (done : List Done) (a b : SeatState View)
@@ -287,6 +287,10 @@ module _ (fits : List ℕ → Type 0) (d : DomainState WordsLaw) (root seat new 
         popped_words = more_words (λ v. v.0.popped) did.deeds.pops (words_popped lanes)
             did.deeds.words (words_popped (lanes ++ did.deeds ∷ [])) popped_is did.passed.popped
             (popped_push lanes did.deeds) items.popped_words did.passed.popped_words;
+        each = pops_push new.view.client.1 lanes did.deeds
+            (pops_more root.view.client.1 new.view.client.1 more_known.knows lanes items.each)
+            (words_more seat.view.client.1 new.view.client.1 more_of_seat did.deeds.pops
+            did.deeds.words did.passed.popped_words);
       }
 
       tells_after : TellsLanes work lanes done root.view.client.1

@@ -29,3 +29,5 @@ pub mod Quiet
 pub mod Rowing
 pub mod RowsMade
 pub mod Slots
+pub mod Trails
+pub mod HoldersTold

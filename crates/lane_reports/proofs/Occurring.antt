@@ -175,6 +175,9 @@ module _ (u : Ends) (z : Area) (p : Plain) (views : List View) (meets : Meets (W
         let b = as_many_texts root.1 (taken_items root.0.popped) us popped_in in
         none_of root.0.stand.left (omega (arith, all, a, b, enough))
 
+    pub left_none : v.0.stand.left ≡ []
+    left_none = ap (λ (x : View). x.0.stand.left) (sym own) ∙ none_left
+
     pub as_often : (w : List ℕ) → times w (map text_bytes ts) ≡ times w (map text_bytes us)
     as_often w = told_agree u z p views meets alone is_shut none_left ts us pushed_in popped_in w
 

@@ -35,6 +35,7 @@ use Rattle.lane_domain.specs.lane_files.declared.work.Work.{Work}
 use Rattle.lane_domain.specs.lane_files.Lanes.{IsWhyStopped, StopsLane}
 use Rattle.lane_domain.specs.lane_files.PieceMakes.{cause_in}
 use Rattle.lane_domain.specs.lane_files.Makes.{HasItsMakes, cause_of}
+use Rattle.lane_domain.proofs.Below.lane_files_Missing.{lane_missed}
 use Rattle.lane_domain.proofs.Below.lane_files_Owning.{owns_no_node}
 use Rattle.lane_domain.proofs.Below.lane_files_Pushed.{full_scanned}
 use Rattle.domain_audit.proofs.Below.core_law_Each.{get_each, length_each}
@@ -181,6 +182,8 @@ module _ (fits : List ℕ → Type 0) (d : DomainState WordsLaw) where
             }),
             full_scanned fits d work stop begun seat before after new.pushed stops cause,
             owns_no_node fits d work stop begun seat before after new.owned new.weaks stops cause,
+            of,
+            lane_missed fits d work stop begun seat before after stops cause,
           )
 
       pub lane_why : (on : Shared) (seats : List (SeatState View)) (ends : List LaneEnd)

@@ -35,6 +35,7 @@ gathers_none work root bare = record {
         (words_of_all work [])) (sym bare.pushed) ([], tt, sym (words_none work));
     popped_words = subst (λ (l : List Taken). KnowsWords root.view.client.1 (taken_items l) [])
         (sym bare.popped) ([], tt, refl);
+    each = tt;
   };
   kept = refl;
   tells = tt;

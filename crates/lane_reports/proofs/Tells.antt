@@ -5,18 +5,20 @@ use Rattle.domain_audit.specs.acquire_retire.Seats.{SeatState}
 use Rattle.words_rest.specs.directory_law.declared.view.View.{View as DirectoryView}
 use Rattle.words_rest.specs.directory_law.Payloads.{Text}
 use Rattle.lane_domain.specs.weak_intern.Knowing.{Knows}
+use Rattle.words_rest.specs.queue_law.declared.view.Item.{Item}
 use Rattle.words_rest.specs.words_law.Known.{KnowsMore, KnowsText}
 use Rattle.words_rest.specs.words_law.Views.{View}
-use Rattle.words_rest.proofs.Below.words_law_Known.{knows_more}
+use Rattle.words_rest.proofs.Below.words_law_Known.{knows_all_more, knows_more}
 use Rattle.lane_domain.proofs.Below.lane_files_Offered.{texts}
 use Rattle.lane_domain.specs.lane_files.declared.work.Work.{Work}
 use Rattle.lane_domain.specs.lane_files.Counting.{KeepsRecords, KnowsEach}
 use Rattle.lane_domain.specs.lane_files.Keeping.{slots_of}
 use Rattle.lane_domain.specs.lane_files.Lanes.{KeepsFiles}
+use Rattle.lane_domain.specs.lane_files.Passed.{KnowsWords}
 use Rattle.lane_domain.specs.lane_files.Work.{kept_files}
 use Rattle.lane_reports.specs.declared.done.Done.{Done}
 use Rattle.lane_reports.specs.Deeds.{LaneDeeds}
-use Rattle.lane_reports.specs.Gathering.{TellsLanes, kept_by}
+use Rattle.lane_reports.specs.Gathering.{KnowsPops, TellsLanes, kept_by}
 use Rattle.lane_reports.specs.Kept.{lives_in}
 use Rattle.words_rest.specs.Kept.{TellsEach, TellsFiles, TellsRecords}
 
@@ -102,6 +104,23 @@ module _ (v w : DirectoryView) (more : KnowsMore v w) where
     files_more (lives_in one.seat) (kept_files work x.tickets) (slots_of (kept_by one)) tells.0,
     lanes_more work xs done tells.1,
   )
+
+-- OF WHAT WAS POPPED, lane by lane
+pub words_more : (v w : DirectoryView) → KnowsMore v w → (xs : List Item) (words : List (List ℕ))
+    → KnowsWords v xs words → KnowsWords w xs words
+words_more v w more xs words knows =
+    (knows.0, knows_all_more v w more xs knows.0 knows.1, knows.2)
+
+pub pops_more : (v w : DirectoryView) → KnowsMore v w → (xs : List LaneDeeds) → KnowsPops v xs
+    → KnowsPops w xs
+pops_more v w more [] all = tt
+pops_more v w more (x ∷ xs) all =
+    (words_more v w more x.pops x.words all.0, pops_more v w more xs all.1)
+
+pub pops_push : (v : DirectoryView) (xs : List LaneDeeds) (x : LaneDeeds) → KnowsPops v xs
+    → KnowsWords v x.pops x.words → KnowsPops v (xs ++ x ∷ [])
+pops_push v [] x all it = (it, tt)
+pops_push v (y ∷ xs) x all it = (all.0, pops_push v xs x all.1 it)
 
 pub tells_push : (work : Work) (xs : List LaneDeeds) (x : LaneDeeds) (done : List Done) (one : Done)
     (v : DirectoryView) → TellsLanes work xs done v

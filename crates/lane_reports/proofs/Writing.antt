@@ -1,12 +1,13 @@
 -- The report of what seat 0 keeps, by the audits and the rows that it made.
-use Rattle.std.proofs.Common.{◌≡◌, ℕ, ◌<◌, List, [], ◌∷◌, refl, sym, ap, subst, ◌∙◌, arith}
+use Rattle.std.proofs.Common.{◌≡◌, ◌≢◌, ℕ, ◌<◌, List, [], ◌∷◌, refl, sym, ap, subst, ◌∙◌, arith}
 use Rattle.std.specs.Prelude.{length, ◌↔◌, map, slice_index_or}
 use Rattle.std.specs.List.{All, Contains}
 use Rattle.std.specs.Map.{keys_of}
 use Rattle.std.proofs.lemmas.List.Elements.{All-head, All-tail}
 use Rattle.law_lesson.specs.plain_state.declared.slot.SlotId.{SlotId}
+use Rattle.law_lesson.specs.plain_state.declared.slot.Stage.TheVariants.{Live}
 use Rattle.law_lesson.specs.plain_state.Lists.{times}
-use Rattle.law_lesson.specs.plain_state.State.{Plain, PlainSeat, no_payload, seat_at}
+use Rattle.law_lesson.specs.plain_state.State.{Plain, PlainSeat, no_payload, seat_at, stage_at}
 use Rattle.law_lesson.specs.plain_protocol.Owns.{Object}
 use Rattle.words_rest.specs.protocol_pairs.Shares.{FitsItsPart, weight_in_part}
 use Rattle.domain_audit.proofs.Below.core_law_Kit.{times_none}
@@ -45,8 +46,8 @@ use Rattle.std.proofs.lemmas.List.{length-map}
 use Rattle.lane_reports.specs.declared.records.WordRecord.{WordRecord}
 use Rattle.lane_reports.specs.Audits.{IsAudited, KnowsOwned}
 use Rattle.lane_reports.specs.Kept.{lives_in}
-use Rattle.lane_reports.specs.Reporting.{CountWork, KeepsWork}
-use Rattle.lane_reports.specs.Rows.{AreRowsOf, IsRecordOf, sums_in, words_in}
+use Rattle.lane_reports.specs.Reporting.{CountWork, KeepsWork, KnowsNoneLive}
+use Rattle.lane_reports.specs.Rows.{AreRowsOf, IsRecordOf, slots_in, sums_in, words_in}
 use Rattle.tally_sums.specs.Sums.{AreCounted, IsSum, SumsUp, Tallies}
 use Rattle.lane_reports.proofs.Alike.{files_alike}
 use Rattle.lane_reports.proofs.KeptWork.{each_kept, same_holders}
@@ -76,22 +77,36 @@ module _ (d : DomainState WordsLaw) (weight : List ℕ → ℕ) (ranks : List �
     };
   }
 
+  no_node_freed : HasNoNode audited.state
+  no_node_freed =
+      no_node_audited (ends_of d.protocol.pair.left) (area_of d.protocol.pair.right) audited.state
+      freed_views audited.law.meets audited.knows.fit freed_left weight ranks found audited.audit
+      audited.reached
+
+  none_live : (s : SlotId) → stage_at audited.state s ≢ Live
+  none_live =
+      let meets = audited.law.meets in
+      none_lives (area_of d.protocol.pair.right) audited.state freed_views meets.lawful
+      meets.law.both.1 audited.knows.fit freed_left no_node_freed none_owned
+
+  pub knows_none : KnowsNoneLive seat
+  knows_none =
+      record { state = audited.state; knows = audited.knows.whole; none = none_live }
+
+  -- and nothing is owned weakly
+  pub none_weak : seat.view.core.weaks ≡ []
+  none_weak =
+      ap (λ (v : PlainSeat). v.weaks) (sym audited.own) ∙ (audited.rests.seats 0).weaks
+
   pub nothing_found : FindsRecords [] found
   nothing_found =
-      let u = ends_of d.protocol.pair.left in
-      let z = area_of d.protocol.pair.right in
       let meets = audited.law.meets in
-      let law = meets.law.both.1 in
-      let is = audited.audit in
-      let none = no_node_audited u z audited.state freed_views meets audited.knows.fit freed_left weight ranks
-      found is audited.reached in
-      let no = none_lives z audited.state freed_views meets.lawful law audited.knows.fit freed_left none
-      none_owned in record {
-        live = is.live ∙ no_slots audited.state no;
+      let is = audited.audit in record {
+        live = is.live ∙ no_slots audited.state none_live;
         deferred = is.deferred ∙ none_deferred audited.state freed_left.rests;
-        cyclic = none_cyclic z audited.state freed_views meets.lawful law audited.knows.fit freed_left none
-            found.cyclic is.cyclic;
-        bytes = is.bytes ∙ no_bytes audited.state weight no;
+        cyclic = none_cyclic (area_of d.protocol.pair.right) audited.state freed_views meets.lawful
+            meets.law.both.1 audited.knows.fit freed_left no_node_freed found.cyclic is.cyclic;
+        bytes = is.bytes ∙ no_bytes audited.state weight none_live;
       }
 
 -- the records and the rows are of the same words
@@ -107,6 +122,33 @@ words_same p (r ∷ records) (row ∷ rows) are =
 keys_in : (records : List WordRecord) → keys_of (sums_in records) ≡ words_in records
 keys_in [] = refl
 keys_in (r ∷ rs) = ap (λ (ws : List (List ℕ)). r.word.now ∷ ws) (keys_in rs)
+
+-- the words of the rows are those of the files
+module _ (work : Work) (is : IsWork work) (tallies : Tallies) (counts : CountWork work tallies)
+    (records : List WordRecord) (words : SumsUp tallies (sums_in records)) (p : Plain)
+    (rows : List Row) (are : AreRowsOf p records rows) where
+  are_counted : AreCounted tallies (words_in records)
+  are_counted = subst (AreCounted tallies) (keys_in records) words.words
+
+  pub have_words : HaveWords (texts_in work) rows
+  have_words = let b = both held in record { in_order = b.0; held = b.1 }
+    where
+      both : ((w : List ℕ) → Contains (words_in records) w ↔ (0 < holders_in w (texts_in work)))
+          → IsInByteOrder (map word_of rows)
+          × ((w : List ℕ) → Contains (map word_of rows) w ↔ (0 < holders_in w (texts_in work)))
+      both held = subst (λ ws. IsInByteOrder ws
+          × ((w : List ℕ) → Contains ws w ↔ (0 < holders_in w (texts_in work))))
+          (sym (words_same p records rows are)) (are_counted.in_order, held)
+
+      held : (w : List ℕ) → Contains (words_in records) w ↔ (0 < holders_in w (texts_in work))
+      held w =
+          let some = is.once in
+          let all = counts w in (
+            (λ has. let above = (are_counted.counted w).0 has in
+                occurs-held w work.rounds (texts_in work) (omega (arith, above, all))),
+            (λ holds. let above = held-occurs w work.rounds (texts_in work) (omega (arith, some)) holds in
+                (are_counted.counted w).1 (omega (arith, above, all))),
+          )
 
 module _ (d : DomainState WordsLaw) (weight : List ℕ → ℕ) (ranks : List ℕ) (work : Work)
     (is : IsWork work) (small : All (λ (words : File). All AreBytes words) (texts_in work))
@@ -185,7 +227,7 @@ module _ (d : DomainState WordsLaw) (weight : List ℕ → ℕ) (ranks : List �
   rows_at : (rs : List WordRecord) (xs : List Row) → All (IsRecordOf kept r1) rs
       → AreRowsOf p rs xs → All (IsSum tallies) (sums_in rs)
       → AreRowsAt (texts_in work) work.rounds p (lives_in r2) kept v xs
-      (map (λ (r : WordRecord). r.slot) rs)
+      (slots_in rs)
   rows_at [] [] each these summed = tt
   rows_at [] (x ∷ xs) each these summed = absurd these
   rows_at (r ∷ rs) [] each these summed = absurd these
@@ -208,35 +250,15 @@ module _ (d : DomainState WordsLaw) (weight : List ℕ → ℕ) (ranks : List �
             (All-tail (IsSum tallies) (r.word.now, r.occurrences) (sums_in rs) summed),
       )
 
-  are_counted : AreCounted tallies (words_in records)
-  are_counted = subst (AreCounted tallies) (keys_in records) words.words
-
   have : HaveWords (texts_in work) rows
-  have = let b = both held in record { in_order = b.0; held = b.1 }
-    where
-      both : ((w : List ℕ) → Contains (words_in records) w ↔ (0 < holders_in w (texts_in work)))
-          → IsInByteOrder (map word_of rows)
-          × ((w : List ℕ) → Contains (map word_of rows) w ↔ (0 < holders_in w (texts_in work)))
-      both held = subst (λ ws. IsInByteOrder ws
-          × ((w : List ℕ) → Contains ws w ↔ (0 < holders_in w (texts_in work))))
-          (sym (words_same p records rows are)) (are_counted.in_order, held)
-
-      held : (w : List ℕ) → Contains (words_in records) w ↔ (0 < holders_in w (texts_in work))
-      held w =
-          let some = is.once in
-          let all = counts w in (
-            (λ has. let above = (are_counted.counted w).0 has in
-                occurs-held w work.rounds (texts_in work) (omega (arith, above, all))),
-            (λ holds. let above = held-occurs w work.rounds (texts_in work) (omega (arith, some)) holds in
-                (are_counted.counted w).1 (omega (arith, above, all))),
-          )
+  have = have_words work is tallies counts records words p rows are
 
   pub written : IsReport (texts_in work) work.rounds
       (report_of rows (totals_found (texts_in work) found freed))
   written =
       is_report u z p views (lives_in r2) files kept keeps_records left no_node (texts_in work)
       (same_holders work keeps.tickets is.once keeps.once) small work.rounds rows
-      (map (λ (r : WordRecord). r.slot) records) (rows_at records rows record_of are words.sums) have weight
+      (slots_in records) (rows_at records rows record_of are words.sums) have weight
       ranks found freed audited.audit nothing
 
 -- the text, by what the calls that wrote it answered

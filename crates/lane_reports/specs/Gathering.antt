@@ -55,6 +55,11 @@ unfoldable pub each_by : (LaneDeeds → List Item) → ℕ → List LaneDeeds �
 each_by f n [] = []
 each_by f n (x ∷ xs) = by_seat n (f x) ++ each_by f (n + 1) xs
 
+-- of the items that each lane popped the view tells the words that the lane counted
+abbrev pub KnowsPops : DirectoryView → List LaneDeeds → Type 0
+KnowsPops v [] = Unit {0}
+KnowsPops v (x ∷ xs) = KnowsWords v x.pops x.words × KnowsPops v xs
+
 -- each tally counts the words that its lane popped
 abbrev pub AreTallies : List LaneDeeds → List (List (List ℕ × ℕ)) → Type 0
 AreTallies [] [] = Unit {0}
@@ -107,13 +112,14 @@ pub record DrewTickets (work : Work) (lanes : List LaneDeeds) (left : List LeftS
   pub numbers : map (λ (l : LeftSeat). l.seat) left ≡ range_with_len 1 (length lanes)
 
 -- The view has what the lanes pushed and popped, in order. It tells the words of all pushed items, which are those of
--- the tickets' files, and of all popped ones.
+-- the tickets' files, and of all popped ones, lane by lane.
 pub record HasItems (work : Work) (lanes : List LaneDeeds) (v : View) : Type 0 where
   pub pushed : v.0.pushed ≡ each_by (λ x. x.pushes) 1 lanes
   pub popped : v.0.popped ≡ each_by (λ x. x.pops) 1 lanes
   pub pushed_words :
       KnowsWords v.1 (taken_items v.0.pushed) (words_of_all work (together (shares_of lanes)))
   pub popped_words : KnowsWords v.1 (taken_items v.0.popped) (words_popped lanes)
+  pub each : KnowsPops v.1 lanes
 
 -- What the seat has beside what it took over is as it was. It has forgotten no text, and has noted the adds and the
 -- makes of the seats that left.

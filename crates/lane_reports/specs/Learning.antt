@@ -5,12 +5,14 @@ use Rattle.law_lesson.specs.plain_state.Places.{content}
 use Rattle.law_lesson.specs.plain_state.declared.slot.SlotId.{SlotId}
 use Rattle.law_lesson.specs.plain_state.State.{Plain, slot_at}
 use Rattle.law_lesson.specs.plain_protocol.Owns.{HasSlot, object_of}
+use Rattle.domain_audit.specs.core_events.declared.act.Act.TheVariants as act
+use Rattle.domain_audit.specs.core_events.declared.outcome.Outcome.{Outcome}
 use Rattle.domain_audit.specs.core_events.declared.view.CoreView.{CoreView}
 use Rattle.domain_audit.specs.core_events.declared.view.LeftSeat.{LeftSeat}
-use Rattle.domain_audit.specs.core_events.declared.view.Move.{Move}
 use Rattle.domain_audit.specs.core_events.Shows.{show_seat, shows}
 use Rattle.domain_audit.specs.Audits.{KnowsLone}
 use Rattle.domain_audit.specs.domain_rule.Views.{object_in, own_of}
+use Rattle.domain_audit.specs.acquire_retire.Collecting.{move}
 use Rattle.domain_audit.specs.acquire_retire.Domains.{DomainState}
 use Rattle.domain_audit.specs.acquire_retire.Seats.{SeatState}
 use Rattle.domain_audit.specs.acquire_retire.Wholes.{known_core}
@@ -30,14 +32,19 @@ HoldsNothing seat i =
 abbrev pub DrewAll : CoreView → Type 0
 DrewAll v = (n : ℕ) × DrewOnce (map (λ (l : LeftSeat). l.tickets) v.left_seats) n
 
--- By one move, which changed nothing but its trail, the seat has learnt that the law holds of the whole state, which
--- it knows, with its own view as the first. What it knows of the objects that it has is so; and where it has drawn no
--- ticket itself, the seats that left drew all.
+-- By a look at a strong cell, which changed nothing but its trail, the seat has learnt that the law holds of the whole
+-- state, which it knows, with its own view as the first. What it knows of the objects that it has is so; and where it
+-- has drawn no ticket itself, the seats that left drew all.
 pub record LearnsLaw (fits : List ℕ → Type 0) (d : DomainState WordsLaw)
     (old new : SeatState View) : Type 0 where
-  pub by : Move
+  pub cell : ℕ
+  pub saw : Outcome
   pub table : new.table ≡ old.table
-  pub core : new.view.core ≡ record old.view.core { trail = old.view.core.trail ++ by ∷ [] }
+  pub core :
+      new.view.core
+      ≡ record old.view.core {
+        trail = old.view.core.trail ++ move (act.Look (Cell cell)) saw ∷ [];
+      }
   pub client : new.view.client ≡ old.view.client
   pub whole : (own_of new.view).whole ≡ (own_of old.view).whole
   pub objects : KnowsStill old.view.core old new

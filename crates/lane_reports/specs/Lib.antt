@@ -26,3 +26,5 @@ pub mod Holders
 pub mod Learning
 pub mod Rows
 pub mod Audits
+pub mod Trails
+pub mod HolderCounts

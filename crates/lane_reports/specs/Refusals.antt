@@ -14,6 +14,7 @@ use Rattle.lane_domain.specs.lane_files.declared.refusal.LaneStop.{LaneStop}
 use Rattle.lane_domain.specs.lane_files.declared.work.Work.{Work}
 use Rattle.lane_domain.specs.lane_files.Lanes.{StopsLane}
 use Rattle.lane_domain.specs.lane_files.Makes.{cause_of}
+use Rattle.lane_domain.specs.lane_files.Missing.{HasMissed}
 use Rattle.lane_domain.specs.lane_files.Owning.{OwnsNoNode}
 use Rattle.lane_domain.specs.lane_files.Scans.{HasScanned}
 use Rattle.lane_domain.specs.Opened.{FindsNoSlot, IsDomainFor}
@@ -64,7 +65,8 @@ pub record HasSpentAll (work : Work) (lanes slots : ℕ) (form : Form) (seat : S
 
 -- Why nothing was counted: there was no memory; or this seat of a domain for this work has used all of its 2^40 adds;
 -- or in a domain for this work, which has fewer slots than makes, seat 0 found each slot taken before the lanes began,
--- or a lane did. That seat has made at least as many whole scans as it pushed items, and owns no node of the queue.
+-- or a lane did. It is a seat of that domain, and its own trail shows the search that found each slot taken. It has
+-- made at least as many whole scans as it pushed items, and owns no node of the queue.
 abbrev pub IsWhyNothing : (List ℕ → Type 0) → Work → ℕ → ℕ → Form → CountError → Type 0
 IsWhyNothing fits work lanes slots form refused.OutOfMemory = Unit {0}
 IsWhyNothing fits work lanes slots form (refused.Spent seat) =
@@ -73,3 +75,4 @@ IsWhyNothing fits work lanes slots form (refused.Full seat) =
     (d : DomainState WordsLaw) × IsDomainFor work lanes slots form d
     × (slots < work.rounds * (all_pieces work + all_parts work) + 2)
     × (FindsNoSlot fits d seat ⊎ StopsUnmade fits work d seat) × HasScanned seat × OwnsNoNode seat
+    × IsOf d seat × HasMissed d.shape seat

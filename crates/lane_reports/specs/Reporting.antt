@@ -1,14 +1,18 @@
 -- What is answered.
-use Rattle.std.specs.Prelude.{ℕ, ◌≡◌, List, []}
+use Rattle.std.specs.Prelude.{ℕ, ◌≡◌, ◌≢◌, List, [], Some}
 use Rattle.std.specs.List.{All}
 use Rattle.law_lesson.specs.plain_state.declared.slot.SlotId.{SlotId}
+use Rattle.law_lesson.specs.plain_state.declared.slot.Stage.TheVariants.{Live}
 use Rattle.law_lesson.specs.plain_state.Lists.{times}
+use Rattle.law_lesson.specs.plain_state.State.{Plain, stage_at}
 use Rattle.tally_sums.specs.cdrc_text.Fold.{File, occurrences_in}
 use Rattle.words_rest.specs.directory_law.Bytes.{AreBytes}
 use Rattle.domain_audit.specs.counted_handles.Handles.{Handle}
 use Rattle.domain_audit.specs.core_events.declared.view.CoreView.{CoreView}
-use Rattle.domain_audit.specs.domain_rule.Views.{IsAlone}
+use Rattle.domain_audit.specs.domain_rule.Views.{IsAlone, own_of}
 use Rattle.domain_audit.specs.acquire_retire.Seats.{SeatState}
+use Rattle.words_rest.specs.queue_law.declared.view.Form.{Form}
+use Rattle.words_rest.specs.queue_law.declared.view.View.{View as QueueView}
 use Rattle.words_rest.specs.words_law.Views.{View}
 use Rattle.words_rest.specs.Kept.{TellsFiles}
 use Rattle.ticket_shares.specs.Tickets.{IsEachOnce}
@@ -49,13 +53,30 @@ pub record HasNothingDeferred (v : CoreView) : Type 0 where
   pub retired : v.retired ≡ []
   pub dying : v.dying ≡ []
 
--- and it owns nothing strongly
+-- and it owns nothing
 pub record HasNothing (v : CoreView) : Type 0 where
   pub owned : v.owned ≡ []
+  pub weaks : v.weaks ≡ []
   pub deferred : HasNothingDeferred v
 
--- it is seat 0, alone in the domain for this work
-pub record IsLast (work : Work) (lanes slots : ℕ) (root : SeatState View) : Type 0 where
+-- the seat knows the whole state, in which no slot is Live
+pub record KnowsNoneLive (seat : SeatState View) : Type 0 where
+  pub state : Plain
+  pub knows : (own_of seat.view).whole ≡ Some state
+  pub none : (s : SlotId) → stage_at state s ≢ Live
+
+-- seat 0 has shut the queue, and nothing was left waiting in it
+pub record LeftNothing (v : QueueView) : Type 0 where
+  pub shut : v.stand.laid ≡ 4
+  pub left : v.stand.left ≡ []
+
+-- It is seat 0, alone in the domain for this work. Its queue was of the form that was asked for, and nothing was left in
+-- it as it was shut. The seat has nothing, and no slot is Live.
+pub record IsLast (work : Work) (lanes slots : ℕ) (asked : Form) (root : SeatState View)
+    : Type 0 where
   pub alone : IsAlone root.view
   pub shape : root.view.core.shape ≡ shape_for work lanes slots
+  pub form : root.view.client.0.form ≡ asked
+  pub queue : LeftNothing root.view.client.0
   pub nothing : HasNothing root.view.core
+  pub live : KnowsNoneLive root

@@ -25,6 +25,10 @@ words_of rows = map (λ (r : Row). r.word.now) rows
 abbrev pub words_in : List WordRecord → List (List ℕ)
 words_in records = map (λ (r : WordRecord). r.word.now) records
 
+-- the slots of some records
+abbrev pub slots_in : List WordRecord → List SlotId
+slots_in records = map (λ (r : WordRecord). r.slot) records
+
 -- the words of some records, with their numbers
 abbrev pub sums_in : List WordRecord → List (List ℕ × ℕ)
 sums_in records = map (λ (r : WordRecord). (r.word.now, r.occurrences)) records

@@ -11,6 +11,7 @@ ghost use Rattle.domain_audit.specs.acquire_retire.Collecting.{rest_of};
 ghost use Rattle.lane_reports.specs.Audits.{IsAudited, KnowsOwned};
 ghost use Rattle.words_rest.specs.Written.{line_of};
 ghost use Rattle.lane_reports.specs.Reporting.{HasNothingDeferred};
+ghost use Rattle.lane_reports.specs.Trails.{GoesOnAlone};
 
 use crate::learning::holds_nothing;
 use domain_audit::{Audit, Domain, Seat, audit_domain_in, settle};
@@ -71,6 +72,7 @@ fn audit_settled<F: Fn(&[u64; 16]) -> u64>(
     ensures same { rest_of root.new.view.core ≡ rest_of root.old.view.core }
     ensures objects { KnowsOwned root.old root.new }
     ensures client { root.new.view.client ≡ root.old.view.client }
+    ensures trail { GoesOnAlone root.old.view.core root.new.view.core }
     ensures alone { IsAlone root.new.view }
     ensures room { HasRoom root.new.view.core }
     ensures rest { IsAtRest domain.now root.new }
@@ -112,6 +114,7 @@ pub(crate) fn audit_at_rest<R: Wait, F: Fn(&[u64; 16]) -> u64>(
     ensures same { rest_of root.new.view.core ≡ rest_of root.old.view.core }
     ensures objects { KnowsOwned root.old root.new }
     ensures client { root.new.view.client ≡ root.old.view.client }
+    ensures trail { GoesOnAlone root.old.view.core root.new.view.core }
     ensures alone { IsAlone root.new.view }
     ensures room { HasRoom root.new.view.core }
     ensures rest { IsAtRest domain.now root.new }

@@ -11,8 +11,9 @@ ghost use Rattle.lane_domain.specs.lane_files.Ready.{IsReady};
 ghost use Rattle.words_rest.specs.words_law.Known.{ForgetsNothing};
 ghost use Rattle.lane_reports.specs.Counting.{CountsAll};
 ghost use Rattle.lane_reports.specs.Gathering.{EachDid, IsBare};
+ghost use Rattle.lane_reports.specs.HolderCounts.{CountsHolders};
 ghost use Rattle.lane_reports.specs.Holders.{IsRoot};
-ghost use Rattle.lane_reports.specs.Reporting.{HasCounted, HasNothing};
+ghost use Rattle.lane_reports.specs.Reporting.{HasCounted, HasNothing, KnowsNoneLive, LeftNothing};
 ghost use Rattle.lane_reports.specs.Rows.{IsWhyNoReport};
 
 use crate::audits::{audit_at_rest, audit_line, list_ranks};
@@ -56,7 +57,9 @@ fn write_report<R: Threads + Wait + Sync, F: Fn(&[u64; 16]) -> u64>(
     ensures why { IfErr result (λ error. IsWhyNoReport domain.now error root.old root.new) }
     ensures report { IfOk result (λ text.
         IsReport (texts_in work.now) work.now.rounds text.items) }
+    ensures holders { IfOk result (λ text. CountsHolders work.now root.new text.items) }
     ensures nothing { OnOk result (HasNothing root.new.view.core) }
+    ensures live { OnOk result (KnowsNoneLive root.new) }
     ensures left { OnOk result
         (root.new.view.core.left_seats ≡ root.old.view.core.left_seats) }
     ensures queue { OnOk result (root.new.view.client.0 ≡ root.old.view.client.0) }
@@ -109,7 +112,12 @@ pub(crate) fn finish<R: Threads + Wait + Sync, F: Fn(&[u64; 16]) -> u64>(
     ensures report { IfOk result (λ r.
         IsReport (texts_in work.now) work.now.rounds r.0.items) }
     ensures counts { IfOk result (λ r. CountsAll work.now root.new r.1.items) }
+    ensures holders { IfOk result (λ r. CountsHolders work.now root.new r.0.items) }
+    ensures form { OnOk result
+        (root.new.view.client.0.form ≡ root.old.view.client.0.form) }
+    ensures queue { OnOk result (LeftNothing root.new.view.client.0) }
     ensures nothing { OnOk result (HasNothing root.new.view.core) }
+    ensures live { OnOk result (KnowsNoneLive root.new) }
     ensures alone { OnOk result (IsAlone root.new.view) }
     ensures rest { OnOk result (IsAtRest domain.now root.new) }
 {

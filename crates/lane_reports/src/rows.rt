@@ -1,12 +1,14 @@
 //! The row of each word.
-ghost use Rattle.std.specs.Prelude.{◌≡◌, ◌<◌, IfOk, Some};
+ghost use Rattle.std.specs.Prelude.{◌≡◌, ◌<◌, ◌++◌, false, IfOk, Some};
 ghost use Rattle.std.specs.List.{All};
 ghost use Rattle.lane_domain.specs.directory_calls.Steps.{Leaves};
 ghost use Rattle.law_lesson.specs.plain_state.Lists.{times};
 ghost use Rattle.law_lesson.specs.plain_state.State.{Plain};
+ghost use Rattle.domain_audit.specs.control_word.Calls.{counted_by};
 ghost use Rattle.domain_audit.specs.domain_rule.Views.{own_of};
+ghost use Rattle.lane_reports.specs.HolderCounts.{counts_of};
 ghost use Rattle.lane_reports.specs.Holders.{IsCount, IsRoot};
-ghost use Rattle.lane_reports.specs.Rows.{AreRowsOf, IsOwnedBy, IsRowOf};
+ghost use Rattle.lane_reports.specs.Rows.{AreRowsOf, IsOwnedBy, IsRowOf, slots_in};
 
 use crate::records::WordRecord;
 use domain_audit::{Domain, Seat, SlotId, strong_count};
@@ -17,7 +19,8 @@ use tally_sums::{OutOfMemory, Row};
 use words_rest::PairKind;
 
 /// A row for each record: how often its word was counted, how many references it has, and the word. The seat is
-/// alone and owns a reference to each. One step for each record. `OutOfMemory` comes of an allocation failure.
+/// alone and owns a reference to each. One step for each record, which counts its references, and no other.
+/// `OutOfMemory` comes of an allocation failure.
 pub(crate) fn count_rows<'a>(
     alloc: Global,
     domain: &Domain<WordsLaw>,
@@ -29,6 +32,8 @@ pub(crate) fn count_rows<'a>(
     requires owned { All (IsOwnedBy root.old) records.items }
     ensures rows { IfOk result (λ rows. (p : Plain) → (own_of root.old.view).whole ≡ Some p
         → AreRowsOf p records.entry.items rows.items) }
+    ensures trail { IfOk result (λ rows. root.new.view.core.trail
+        ≡ root.old.view.core.trail ++ counts_of (slots_in records.entry.items) rows.items) }
     ensures whole { (own_of root.new.view).whole ≡ (own_of root.old.view).whole }
     ensures leaves { Leaves root.old.view.core.owned root.old.view.core.weaks root.old root.new }
     ensures client { root.new.view.client ≡ root.old.view.client }
@@ -52,6 +57,8 @@ fn count_row<'a>(
     requires owned { IsOwnedBy root.old of }
     ensures row { (p : Plain) → (own_of root.old.view).whole ≡ Some p
         → IsRowOf p of.entry result }
+    ensures trail { root.new.view.core.trail
+        ≡ root.old.view.core.trail ++ counted_by of.entry.slot result.holders false }
     ensures whole { (own_of root.new.view).whole ≡ (own_of root.old.view).whole }
     ensures leaves { Leaves root.old.view.core.owned root.old.view.core.weaks root.old root.new }
     ensures client { root.new.view.client ≡ root.old.view.client }
@@ -80,6 +87,8 @@ fn count_strong(
     requires ready { IsRoot domain.now shared.now root.old }
     requires owned { 0 < times slot root.old.view.core.owned }
     ensures counted { IsCount slot result root.old }
+    ensures trail { root.new.view.core.trail
+        ≡ root.old.view.core.trail ++ counted_by slot result false }
     ensures whole { (own_of root.new.view).whole ≡ (own_of root.old.view).whole }
     ensures leaves { Leaves root.old.view.core.owned root.old.view.core.weaks root.old root.new }
     ensures client { root.new.view.client ≡ root.old.view.client }

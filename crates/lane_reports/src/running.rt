@@ -9,6 +9,7 @@ ghost use Rattle.lane_domain.specs.lane_files.Work.{IsWork};
 ghost use Rattle.lane_domain.specs.Opened.{HasOnlyLaid, IsDomainFor, fresh_lanes};
 ghost use Rattle.lane_domain.specs.Sizes.{IsWithinLimits, most_lanes, texts_in};
 ghost use Rattle.lane_reports.specs.Counting.{CountsAll};
+ghost use Rattle.lane_reports.specs.HolderCounts.{CountsHolders};
 ghost use Rattle.lane_reports.specs.Refusals.{IsWhyNothing};
 ghost use Rattle.lane_reports.specs.Reporting.{IsLast};
 
@@ -82,7 +83,9 @@ pub fn count_words<R: Threads + Wait + Sync, G: Gate + Sync, F: Fn(&[u64; 16]) -
         IsReport (texts_in work.now) work.now.rounds counted.text.items) }
     ensures counts { IfOk result (λ counted.
         CountsAll work.now counted.root counted.tallies.items) }
-    ensures root { IfOk result (λ counted. IsLast work.now lanes slots counted.root) }
+    ensures holders { IfOk result (λ counted.
+        CountsHolders work.now counted.root counted.text.items) }
+    ensures root { IfOk result (λ counted. IsLast work.now lanes slots form counted.root) }
     ensures why { IfErr result (IsWhyNothing
         ⟦<PairKind<NodeKind, RecordKind> as PayloadKind>⟧.fits work.now lanes slots form) }
 {

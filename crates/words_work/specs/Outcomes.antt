@@ -10,6 +10,7 @@ use Rattle.lane_reports.specs.lane_gate.Causes.{Rose}
 use Rattle.lane_reports.specs.lane_files.declared.work.Work.{Work}
 use Rattle.lane_reports.specs.lane_domain.Sizes.{texts_in}
 use Rattle.lane_reports.specs.Counting.{CountsAll}
+use Rattle.lane_reports.specs.HolderCounts.{CountsHolders}
 use Rattle.lane_reports.specs.Refusals.{HasSpentAll, IsWhyNothing}
 use Rattle.lane_reports.specs.Reporting.{IsLast}
 use Rattle.lane_reports.specs.declared.counted.CountError.TheVariants as uncounted
@@ -29,14 +30,17 @@ pub record IsWorkOn (rounds : ℕ) (contents : List (List ℕ)) (work : Work) : 
   pub often : work.rounds ≡ rounds
   pub texts : texts_in work ≡ map pieces_of contents
 
--- The contents were counted: the bytes are their text, and seat 0 and the tallies are those of the work on them.
+-- The contents were counted: the bytes are their text, and seat 0 and the tallies are those of the work on them. Seat 0
+-- counted the holders, and its queue was of the form that was asked for.
 pub record IsCounted (plan : Plan) (contents : List (List ℕ)) (done : WordsDone) : Type 0 where
   pub within : IsWithinLimits plan.rounds contents
   pub text : IsText contents plan.rounds done.bytes.items
   pub work : Work
   pub on : IsWorkOn plan.rounds contents work
   pub counts : CountsAll work done.root done.tallies.items
-  pub root : IsLast work plan.lanes (slots_for plan (map pieces_of contents)) done.root
+  pub holders : CountsHolders work done.root done.bytes.items
+  pub root :
+      IsLast work plan.lanes (slots_for plan (map pieces_of contents)) plan.form done.root
 
 -- contents of the files with these names were counted
 pub record IsDone (told : Told) (names : List (List ℕ)) (plan : Plan) (done : WordsDone)

@@ -122,10 +122,10 @@ pub fn count_contents<R: Threads + Wait + Sync, G: Gate + Sync, D: Fn(&[u64; 16]
 /// command line say. It answers their text, seat 0, which is alone by then, and how often each seat counted each word.
 ///
 /// Read comes only where the source's count of faults rose in this call. TooLarge comes exactly where a limit is
-/// passed: there are more than 4,096 files, and then none is read; the files have more than 67,108,864 bytes together;
-/// their pieces, times the rounds, are more than 1,000,000; or more than 4,194,304 slots would be needed, for each
-/// piece one and its record's, and two more. Full and Spent come with the seat that was refused while the lanes ran.
-/// OutOfMemory may come in place of any. It may wait for other threads.
+/// passed: there are more than 4,096 files, which is told before any is read; the files have more than 67,108,864
+/// bytes together; their pieces, times the rounds, are more than 1,000,000; or more than 4,194,304 slots would be
+/// needed, for each piece one and its record's, and two more. Full and Spent come with the seat that was refused while
+/// the lanes ran. OutOfMemory may come in place of any, but for too many files. It may wait for other threads.
 pub fn words_work<
     R: Threads + Wait + Sync,
     F: Files,
@@ -152,7 +152,9 @@ pub fn words_work<
           overlong = F.overlong files.old;
           overlong_now = F.overlong files.new;
         })) }
-    ensures many { most_files < length (names_of args.now) → files.new ≡ files.old }
+    ensures many { most_files < length (names_of args.now)
+        → result ≡ Err WordsRefused.TooLarge }
+    ensures unread { most_files < length (names_of args.now) → files.new ≡ files.old }
     ensures refuses { (contents : List (List ℕ)) →
         AreTold (F.told files.old) (names_of args.now) contents →
         PassesLimit args.now.rounds contents →

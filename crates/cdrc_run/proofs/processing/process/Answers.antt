@@ -1,4 +1,4 @@
-use Rattle.cdrc_run.proofs.Processed.{ends_with}
+use Rattle.cdrc_run.proofs.Processed.{ends_with, many_with}
 use Rattle.cdrc_run.proofs.processing.process.Goals as goal
 use Rattle.cdrc_run.proofs.processing.process.Goals.{in-Ok, in-Err}
 
@@ -37,5 +37,29 @@ returns-else-status-ne0-clause-unread g c = elim c.match-words.branch [
   | in-Ok w ↦
       rw (w.in-Ok.is, ← w.deref.ensures.value, w.files-is)
       (λ none. (w.run.ensures.usage_exactly none).3)
+  | in-Err w ↦ rw w.in-Err.is tt
+]
+
+pub returns-then-status-ne0-clause-many : goal.returns-then-status-ne0-clause-many
+returns-then-status-ne0-clause-many g c = elim c.match-words.branch [
+  | in-Ok w ↦
+      rw (w.in-Ok.is, ← w.deref.ensures.value, w.files-is)
+      (λ job asks many. (
+        many_with w.run.result.status c.exit_status-status.result
+            (rw w.outcome-is at c.exit_status-status.ensures.ran) (w.run.ensures.many job asks many),
+        w.run.ensures.unread job asks many,
+      ))
+  | in-Err w ↦ rw w.in-Err.is tt
+]
+
+pub returns-else-status-ne0-clause-many : goal.returns-else-status-ne0-clause-many
+returns-else-status-ne0-clause-many g c = elim c.match-words.branch [
+  | in-Ok w ↦
+      rw (w.in-Ok.is, ← w.deref.ensures.value, w.files-is)
+      (λ job asks many. (
+        many_with w.run.result.status c.exit_status-status.result
+            (rw w.outcome-is at c.exit_status-status.ensures.ran) (w.run.ensures.many job asks many),
+        w.run.ensures.unread job asks many,
+      ))
   | in-Err w ↦ rw w.in-Err.is tt
 ]

@@ -1,4 +1,5 @@
 use Rattle.lane_reports.proofs.Audited.{is_audited, objects_same}
+use Rattle.lane_reports.proofs.Trails.{audit_alone, stays_alone}
 use Rattle.lane_reports.proofs.audits.audit_settled.Goals as goal
 
 pub returns-then-tail_is_null-clause-found : goal.returns-then-tail_is_null-clause-found
@@ -30,3 +31,22 @@ returns-clause-objects g c =
     c.holds_nothing-tail_is_null.new.root c.in_ok-found.found c.requires.cells audit.stays
     audit.whole audit.objects audit.client c.holds_nothing-head_is_null.ensures.learns
     c.holds_nothing-tail_is_null.ensures.learns
+
+pub returns-then-tail_is_null-clause-trail : goal.returns-then-tail_is_null-clause-trail
+returns-then-tail_is_null-clause-trail g c =
+    audit_alone _ c.args.domain.now c.args.root.now c.audit_domain_in.new.seat
+    c.holds_nothing-head_is_null.new.root c.holds_nothing-tail_is_null.new.root
+    c.audit_domain_in.ensures.stays c.holds_nothing-head_is_null.ensures.learns
+    c.holds_nothing-tail_is_null.ensures.learns
+
+pub returns-clause-trail : goal.returns-clause-trail
+returns-clause-trail g c =
+    audit_alone _ c.args.domain.now c.args.root.now c.audit_domain_in.new.seat
+    c.holds_nothing-head_is_null.new.root c.holds_nothing-tail_is_null.new.root
+    c.audit_domain_in.ensures.stays c.holds_nothing-head_is_null.ensures.learns
+    c.holds_nothing-tail_is_null.ensures.learns
+
+pub returns-in_err-found-clause-trail : goal.returns-in_err-found-clause-trail
+returns-in_err-found-clause-trail g c =
+    stays_alone _ c.args.domain.now c.args.root.now c.audit_domain_in.new.seat
+    c.audit_domain_in.ensures.stays

@@ -9,10 +9,10 @@ use Rattle.words_rest.specs.words_law.Known.{KnowsMore}
 use Rattle.words_rest.specs.words_law.Views.{View}
 use Rattle.lane_reports.specs.Gathering.{Tally}
 use Rattle.lane_reports.specs.Counting.{CountsAll}
-use Rattle.lane_reports.specs.Reporting.{HasCounted}
+use Rattle.lane_reports.specs.Reporting.{HasCounted, LeftNothing}
 use Rattle.tally_sums.specs.Sums.{Tallies}
 use Rattle.lane_reports.proofs.Counting.{counts_all}
-use Rattle.lane_reports.proofs.Finished.{all_known}
+use Rattle.lane_reports.proofs.Finished.{all_known, form_same, left_nothing, once}
 use Rattle.lane_reports.proofs.Refused.{no_report, no_report_since}
 use Rattle.lane_reports.proofs.Still.{no_snapshot, two_free}
 use Rattle.lane_reports.proofs.finishing.finish.Goals as goal
@@ -69,7 +69,39 @@ returns-clause-counts g c =
     (learns.client ∙ shuts.client) wrote.knows.knows)
     (wrote.left ∙ ap (λ (v : CoreView). v.left_seats) learns.core
     ∙ ap (λ (v : CoreView). v.left_seats) shuts.owns.same
-    ∙ ap (λ (v : CoreView). v.left_seats) c.take_rest.ensures.owns.same))
+    ∙ ap (λ (v : CoreView). v.left_seats) c.take_rest.ensures.owns.same)
+    (once _ c.args.domain.now c.args.work.now c.requires.work c.requires.within.interns
+    c.args.done.items c.requires.some c.args.root.now c.gather.new.root c.take_rest.new.root
+    c.shut_and_settle.new.root c.holds_nothing-is_null.new.root
+    c.in_ok-tallies.field-0.tallies.items c.in_ok-tallies-2.tallies.items
+    c.in_ok-tallies.field-0.kept.items c.in_ok-tallies.ensures.gathers c.requires.bare
+    c.requires.named c.in_ok-tallies-2.ensures.takes c.take_rest.ensures.owns
+    c.shut_and_settle.ensures.shuts c.holds_nothing-is_null.ensures.learns
+    c.holds_nothing-is_null.ensures.rest))
+
+pub returns-clause-form : goal.returns-clause-form
+returns-clause-form g c =
+    ap (λ (q : QueueView). q.form) c.in_ok-text.ensures.queue
+    ∙ form_same _ c.args.domain.now c.args.work.now c.requires.work c.requires.within.interns
+    c.args.done.items c.requires.some c.args.root.now c.gather.new.root c.take_rest.new.root
+    c.shut_and_settle.new.root c.holds_nothing-is_null.new.root
+    c.in_ok-tallies.field-0.tallies.items c.in_ok-tallies-2.tallies.items
+    c.in_ok-tallies.field-0.kept.items c.in_ok-tallies.ensures.gathers c.requires.bare
+    c.requires.named c.in_ok-tallies-2.ensures.takes c.take_rest.ensures.owns
+    c.shut_and_settle.ensures.shuts c.holds_nothing-is_null.ensures.learns
+    c.holds_nothing-is_null.ensures.rest
+
+pub returns-clause-queue : goal.returns-clause-queue
+returns-clause-queue g c =
+    subst LeftNothing (sym c.in_ok-text.ensures.queue)
+    (left_nothing _ c.args.domain.now c.args.work.now c.requires.work c.requires.within.interns
+    c.args.done.items c.requires.some c.args.root.now c.gather.new.root c.take_rest.new.root
+    c.shut_and_settle.new.root c.holds_nothing-is_null.new.root
+    c.in_ok-tallies.field-0.tallies.items c.in_ok-tallies-2.tallies.items
+    c.in_ok-tallies.field-0.kept.items c.in_ok-tallies.ensures.gathers c.requires.bare
+    c.requires.named c.in_ok-tallies-2.ensures.takes c.take_rest.ensures.owns
+    c.shut_and_settle.ensures.shuts c.holds_nothing-is_null.ensures.learns
+    c.holds_nothing-is_null.ensures.rest)
 
 pub returns-in_err-tallies-2-clause-why : goal.returns-in_err-tallies-2-clause-why
 returns-in_err-tallies-2-clause-why g c =

@@ -16,9 +16,11 @@ use Rattle.lane_domain.specs.lane_files.Keeping.{slots_of}
 use Rattle.lane_domain.specs.Sizes.{texts_in}
 use Rattle.lane_reports.specs.Rows.{IsRecordOf}
 use Rattle.lane_reports.proofs.Counting.{learns_more}
+use Rattle.lane_reports.proofs.HoldersTold.{holders_counted}
 use Rattle.lane_reports.proofs.Quiet.{nothing_owned}
 use Rattle.lane_reports.proofs.Refused.{no_report}
-use Rattle.lane_reports.proofs.Writing.{nothing_found, text_is, written}
+use Rattle.lane_reports.proofs.Trails.{alone_then}
+use Rattle.lane_reports.proofs.Writing.{have_words, knows_none, none_weak, nothing_found, text_is, written}
 use Rattle.lane_reports.proofs.finishing.write_report.Goals as goal
 
 pub count_rows-requires-clause-ready : goal.count_rows-requires-clause-ready
@@ -63,8 +65,46 @@ returns-clause-nothing g c = record {
       ∙ ap (λ (v : CoreView). times s v.owned) c.audit_at_rest.ensures.same
       ∙ c.find_records.ensures.leaves.owns s ∙ c.requires.counted.owned s)
       refl c.give_all.ensures.gives c.audit_at_rest-2.ensures.same;
+  weaks = none_weak c.args.domain.now _ _ c.audit_at_rest-2.new.root c.in_ok-freed.freed
+      c.in_ok-freed.ensures.found
+      (nothing_owned (slots_of c.args.kept.items) c.count_rows.new.root c.count_rows.new.root
+      c.give_all.new.root c.audit_at_rest-2.new.root
+      (λ s. c.count_rows.ensures.leaves.owns s
+      ∙ ap (λ (v : CoreView). times s v.owned) c.audit_at_rest.ensures.same
+      ∙ c.find_records.ensures.leaves.owns s ∙ c.requires.counted.owned s)
+      refl c.give_all.ensures.gives c.audit_at_rest-2.ensures.same);
   deferred = c.audit_at_rest-2.ensures.settled;
 }
+
+pub returns-clause-live : goal.returns-clause-live
+returns-clause-live g c =
+    knows_none c.args.domain.now _ _ c.audit_at_rest-2.new.root c.in_ok-freed.freed
+    c.in_ok-freed.ensures.found
+    (nothing_owned (slots_of c.args.kept.items) c.count_rows.new.root c.count_rows.new.root
+    c.give_all.new.root c.audit_at_rest-2.new.root
+    (λ s. c.count_rows.ensures.leaves.owns s
+    ∙ ap (λ (v : CoreView). times s v.owned) c.audit_at_rest.ensures.same
+    ∙ c.find_records.ensures.leaves.owns s ∙ c.requires.counted.owned s)
+    refl c.give_all.ensures.gives c.audit_at_rest-2.ensures.same)
+
+pub returns-clause-holders : goal.returns-clause-holders
+returns-clause-holders g c =
+    let held = c.in_ok-held.ensures.found in
+    let are = c.in_ok-rows.ensures.rows held.state held.knows.whole in
+    holders_counted c.args.work.now held.state (slots_of c.deref.result.now)
+    c.find_records.new.root c.audit_at_rest.new.root c.count_rows.new.root
+    c.audit_at_rest-2.new.root c.in_ok-records.records.items c.deref-4.result.now
+    c.in_ok-rows.rows.items _ c.in_ok-report.field-0.items c.in_ok-report.ensures
+    c.deref-4.ensures.value
+    (have_words c.args.work.now c.requires.work c.args.tallies.now c.requires.counted.counts
+    c.in_ok-records.records.items c.in_ok-records.ensures.words held.state c.in_ok-rows.rows.items
+    are)
+    are c.in_ok-records.ensures.records
+    (c.audit_at_rest-2.ensures.client ∙ c.give_all.ensures.client ∙ c.count_rows.ensures.client
+    ∙ c.audit_at_rest.ensures.client)
+    c.in_ok-rows.ensures.trail
+    (alone_then c.count_rows.new.root.view.core c.give_all.new.root.view.core
+    c.audit_at_rest-2.new.root.view.core c.give_all.ensures.trail c.audit_at_rest-2.ensures.trail)
 
 pub returns-clause-report : goal.returns-clause-report
 returns-clause-report g c =

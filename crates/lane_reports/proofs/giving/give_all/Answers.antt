@@ -5,6 +5,7 @@ use Rattle.lane_domain.specs.lane_files.Keeping.{GivesUp, slots_of}
 use Rattle.lane_domain.proofs.Below.lane_files_Giving.{gives_none}
 use Rattle.lane_domain.proofs.Below.lane_files_SeatsKept.{owns_drop}
 use Rattle.lane_reports.proofs.Dropped.{gives_more, next_owned}
+use Rattle.lane_reports.proofs.Trails.{alone_same, alone_then, drop_alone}
 use Rattle.lane_reports.proofs.giving.give_all.Goals as goal
 
 pub loop-handle-init : goal.loop-handle-init
@@ -12,6 +13,7 @@ loop-handle-init c = record {
   all = c.into_iter-handle-iterator.ensures.into_iter_gives.0;
   gives = gives_none c.args.root.now;
   client = refl;
+  trail = alone_same c.args.root.now.view.core c.args.root.now.view.core refl;
   room = c.requires.room;
   rest = c.requires.rest;
 }
@@ -35,6 +37,10 @@ loop-handle-preserved c = record {
       (owns_drop _ c.args.domain.now c.in-Some.handle.slot c.loop-handle.root
       c.drop_strong.new.seat c.drop_strong.ensures.dropped c.drop_strong.ensures.objects);
   client = c.drop_strong.ensures.client ∙ c.loop-handle.invariant.client;
+  trail = alone_then c.args.root.now.view.core c.loop-handle.root.view.core
+      c.drop_strong.new.seat.view.core c.loop-handle.invariant.trail
+      (drop_alone _ c.args.domain.now c.in-Some.handle.slot c.loop-handle.root
+      c.drop_strong.new.seat c.drop_strong.ensures.dropped);
   room = c.drop_strong.ensures.room c.loop-handle.invariant.room;
   rest = c.drop_strong.ensures.rest;
 }

@@ -1,9 +1,10 @@
-use Rattle.std.proofs.Common.{◌∷◌, ◌++◌, [], List, length, length-append, append-nil, append_assoc, ap, sym, ◌∙◌, subst, arith}
+use Rattle.std.proofs.Common.{◌≡◌, ◌∷◌, ◌++◌, [], List, length, length-append, append-nil, append_assoc, ap, sym, ◌∙◌, subst, arith}
 use Rattle.domain_audit.proofs.Below.slot_store_Quieting.{no_items}
 use Rattle.lane_reports.specs.declared.records.WordRecord.{WordRecord}
-use Rattle.lane_reports.specs.Rows.{AreRowsOf, IsOwnedBy}
+use Rattle.lane_reports.specs.HolderCounts.{counts_of}
+use Rattle.lane_reports.specs.Rows.{AreRowsOf, IsOwnedBy, slots_in}
 use Rattle.lane_reports.proofs.Finding.{leaves_on}
-use Rattle.lane_reports.proofs.RowsMade.{next_so, rows_push}
+use Rattle.lane_reports.proofs.RowsMade.{counts_more, next_so, rows_push}
 use Rattle.lane_reports.proofs.rows.count_rows.Goals as goal
 
 pub count_row-requires-clause-owned : goal.count_row-requires-clause-owned
@@ -30,6 +31,15 @@ loop-of-preserved c = record {
       (rows_push p c.loop-of.yielded c.loop-of.rows.items c.in-Some.of
       c.count_row.result (c.loop-of.invariant.rows p whole)
       (c.count_row.ensures.row p (c.loop-of.invariant.whole ∙ whole)));
+  many = let so = c.loop-of.invariant.many in
+      let first = length-append c.loop-of.yielded (c.in-Some.of ∷ []) in
+      let more = ap length c.push_reserved.ensures.items in
+      let long = length-append c.loop-of.rows.items (c.count_row.result ∷ []) in
+      omega (arith, so, first, more, long);
+  trail = counts_more c.args.root.now.view.core c.loop-of.root.view.core c.count_row.new.root.view.core
+      c.loop-of.yielded c.loop-of.rows.items c.push_reserved.new.self.items c.in-Some.of
+      c.count_row.result c.loop-of.invariant.many c.loop-of.invariant.trail
+      c.count_row.ensures.trail c.push_reserved.ensures.items;
   whole = c.count_row.ensures.whole ∙ c.loop-of.invariant.whole;
   leaves = leaves_on c.args.root.now c.loop-of.root c.count_row.new.root
       c.loop-of.invariant.leaves c.count_row.ensures.leaves;
@@ -46,3 +56,14 @@ returns-clause-rows c p whole =
     (sym c.loop-of.of-iterator.rest.ok.0 ∙ c.in-None.ensures.steps.0)))
     ∙ c.loop-of.invariant.all ∙ c.into_iter-of-iterator.ensures.into_iter_gives.0)
     (c.loop-of.invariant.rows p whole)
+
+pub returns-clause-trail : goal.returns-clause-trail
+returns-clause-trail c =
+    subst (λ (rs : List WordRecord). c.loop-of.root.view.core.trail
+    ≡ c.args.root.now.view.core.trail ++ counts_of (slots_in rs) c.loop-of.rows.items)
+    (sym (append-nil c.loop-of.yielded)
+    ∙ sym (ap (λ (rs : List WordRecord). c.loop-of.yielded ++ rs)
+    (no_items c.loop-of.of-iterator.rest.items
+    (sym c.loop-of.of-iterator.rest.ok.0 ∙ c.in-None.ensures.steps.0)))
+    ∙ c.loop-of.invariant.all ∙ c.into_iter-of-iterator.ensures.into_iter_gives.0)
+    c.loop-of.invariant.trail

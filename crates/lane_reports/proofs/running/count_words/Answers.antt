@@ -61,6 +61,17 @@ finish-requires-clause-all g c κs within =
     let seats = ap (λ (z : Shape). z.seats) c.in_ok-domain.ensures.domain.shape in
     omega (arith, done, many, seats)
 
+pub returns-in-Ok-clause-root : goal.returns-in-Ok-clause-root
+returns-in-Ok-clause-root g c =
+    let last = c.in-Ok.ensures in record {
+      alone = last.alone;
+      shape = last.rest.of_domain.1 ∙ c.in_ok-domain.ensures.domain.shape;
+      form = last.form ∙ ap (λ (q : QueueView). q.form) c.in_ok-domain.ensures.root.queue;
+      queue = last.queue;
+      nothing = last.nothing;
+      live = last.live;
+    }
+
 pub returns-in_err-done-clause-why : goal.returns-in_err-done-clause-why
 returns-in_err-done-clause-why g c =
     let opened = c.in_ok-domain.field-0 in

@@ -15,4 +15,6 @@ returns-in-Err-Full-clause-why c =
       inl why.1,
       unlaid_scanned _ c.in-Err-Full.unlaid.domain c.in-Err-Full.unlaid.root why.1,
       unlaid_owns _ c.in-Err-Full.unlaid.domain c.in-Err-Full.unlaid.root why.1,
+      why.3,
+      why.4,
     )

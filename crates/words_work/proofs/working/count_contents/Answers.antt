@@ -27,7 +27,9 @@ returns-in-Ok-clause-done g c =
       work = work;
       on = on;
       counts = c.in-Ok.ensures.counts;
-      root = subst (λ (n : ℕ). IsLast work plan.lanes n counted.root) slots c.in-Ok.ensures.root;
+      holders = c.in-Ok.ensures.holders;
+      root = subst (λ (n : ℕ). IsLast work plan.lanes n plan.form counted.root) slots
+          c.in-Ok.ensures.root;
     }
 
 pub returns-in-Err-Full-clause-why : goal.returns-in-Err-Full-clause-why
