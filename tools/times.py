@@ -4,11 +4,11 @@
     tools/times.py COMMAND..       as tools/times.py rt ci --anew
 
 First it proves the toolchain's own example, by `rt selftest`, whose seconds tell how fast the machine is. Then it runs
-the command in the repository's top folder, looks twice a second at the checkers that run on this machine, and prints a
-row for each crate at the end: its lines of code, definitions and proofs, and the processor seconds of its proof, of the
-proof of its tests, and of its must-fail edits; then the sums. What the machine has kept from earlier runs isn't run
-again and has no number, so a whole table needs `--anew`. Processor seconds depend little on what else the machine does;
-other checkers that run meanwhile are counted too, so let there be none.
+the command in the repository's top folder, looks twice a second at the checkers that the command has started, and prints
+a row for each crate at the end: its lines of code, definitions and proofs, and the processor seconds of its proof, of
+the proof of its tests, and of its must-fail edits; then the sums. What the machine has kept from earlier runs isn't run
+again and has no number, so a whole table needs `--anew`. Processor seconds depend little on what else the machine does,
+but leave it alone all the same.
 """
 import os
 import resource
@@ -61,6 +61,13 @@ def seconds(process):
     return (int(rest[1]), rest[19], sum(map(int, rest[11:15])) / TICKS) if rest else (0, b"", 0)
 
 
+def descends(number, ancestor):
+    """Whether a process was started by another, or by one that this has started."""
+    while number > 1 and number != ancestor:
+        number = seconds(Path("/proc") / str(number))[0]
+    return number == ancestor
+
+
 def watch(command):
     """The processor seconds of each crate by kind of work, while the command runs, and its exit status."""
     used, run = {}, subprocess.Popen(command, cwd=TOP)
@@ -68,7 +75,7 @@ def watch(command):
         checkers = {}
         for process in Path("/proc").glob("[0-9]*"):
             work = checker(process)
-            if work:
+            if work and descends(int(process.name), run.pid):
                 checkers[int(process.name)] = work, *seconds(process)
         for number, (work, parent, begun, spent) in checkers.items():
             # (what a checker starts is counted with it, once it has waited for it)
