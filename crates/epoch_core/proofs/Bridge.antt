@@ -113,7 +113,7 @@ seen_entries s (y ∷ ys) =
     let b = times_cons s y ys in
     let r = seen_entries s ys in omega arith
 
-seen_weak : (k : Kind) (s : SlotId) (xs : List SlotId)
+pub seen_weak : (k : Kind) (s : SlotId) (xs : List SlotId)
     → (entry_times Weak s (map (λ (x : SlotId). (Strong, x)) xs) ≡ 0)
     × (entry_times Disposal s (map (λ (x : SlotId). (Strong, x)) xs) ≡ 0)
 seen_weak k s [] = (entry_none Weak s, entry_none Disposal s)

@@ -52,7 +52,7 @@ content_kept r (Field s i) new = length-set r.slots s.0 _
 content_kept r (WeakCell i) new = refl
 content_kept r (WeakField s) new = length-set r.slots s.0 _
 
-slots_kept : (p q : Plain) (n : ℕ) (a : PlainAct) (m : ℕ) → Does p n a m q → length q.slots ≡ length p.slots
+pub slots_kept : (p q : Plain) (n : ℕ) (a : PlainAct) (m : ℕ) → Does p n a m q → length q.slots ≡ length p.slots
 slots_kept p q n (plain.Claim x) m d = kept q _ p d.1.4 (length-set p.slots x.0 _)
 slots_kept p q n (plain.Fill x i w) m d = kept q _ p d.1.4 (length-set p.slots x.0 _)
 slots_kept p q n (plain.Make x) m d = kept q _ p d.1.3 (length-set p.slots x.0 _)

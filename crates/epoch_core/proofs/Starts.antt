@@ -40,7 +40,7 @@ free_at (suc n) (suc x) k hx hk =
     let e : 19 * suc x + k ≡ 19 + (19 * x + k) = omega arith in
     rw e (get_or-append-add free_words (all_free n) (19 * x + k) 0 ∙ free_at n x k (omega arith) hk)
 
-zeros_at : (k : ℕ) → 1 ≤ k → k < 19 → get_or free_words k 0 ≡ 0
+pub zeros_at : (k : ℕ) → 1 ≤ k → k < 19 → get_or free_words k 0 ≡ 0
 zeros_at zero a b = absurd (omega arith)
 zeros_at (suc k) a b = get_or-replicate 18 k 0 0 (omega arith)
 
@@ -69,13 +69,13 @@ module _ (z : EpochShape) where
       let d = length_free z.slots in omega arith
 
   -- below the slots' words all are 0
-  low_at : (i : ℕ) → i < slot_at z 0 → slice_index (first_words z) i ≡ 0
+  pub low_at : (i : ℕ) → i < slot_at z 0 → slice_index (first_words z) i ≡ 0
   low_at i h =
       let b = low_length in
       get_or_append_left low_words (all_free z.slots) 0 i (omega arith)
       ∙ get_or-replicate (slot_at z 0) i 0 0 h
 
-  slot_word : (x k : ℕ) → x < z.slots → k < 19
+  pub slot_word : (x k : ℕ) → x < z.slots → k < 19
       → slice_index (first_words z) (slot_at z x + k) ≡ get_or free_words k 0
   slot_word x k hx hk =
       let b = low_length in
@@ -88,7 +88,7 @@ module _ (z : EpochShape) where
   count_first s h =
       let e : count_at z s ≡ slot_at z s.0 + 0 = omega arith in rw e (slot_word s.0 0 h (omega arith))
 
-  field_first : (s : SlotId) (i : ℕ) → s.0 < z.slots → i < 2
+  pub field_first : (s : SlotId) (i : ℕ) → s.0 < z.slots → i < 2
       → slice_index (first_words z) (field_at z s i) ≡ 0
   field_first s i h hi =
       let e : field_at z s i ≡ slot_at z s.0 + (1 + i) = omega arith in
@@ -124,7 +124,7 @@ length_views z i [] = refl
 length_views z i (q ∷ qs) = ap suc (length_views z (i + 1) qs)
 
 -- seat n's first view
-first_at : (z : EpochShape) (i n : ℕ) (qs : List Quota) (d : Quota) → n < length qs
+pub first_at : (z : EpochShape) (i n : ℕ) (qs : List Quota) (d : Quota) → n < length qs
     → get_or (first_views z i qs) n no_view ≡ first_view z (i + n) (get_or qs n d)
 first_at z i n [] d h = absurd (omega arith)
 first_at z i zero (q ∷ qs) d h =
@@ -158,7 +158,7 @@ no_dates : (d : Dated) → dated_times d [] ≡ 0
 unfolding dated_times
 no_dates d = refl
 
-first_seat : (z : EpochShape) (n : ℕ) (q : Quota) → IsQuota q → SeatLaw z n (first_view z n q)
+pub first_seat : (z : EpochShape) (n : ℕ) (q : Quota) → IsQuota q → SeatLaw z n (first_view z n q)
 first_seat z n q is = record {
   number = refl;
   same_shape = refl;

@@ -9,7 +9,7 @@
 //! slot is destroyed only by the one seat that took its last reference.
 //!
 //! Nothing is promised about which event comes, or when. Deferral has no bound: a region that stays open keeps every
-//! later entry from being given up. No code makes these events yet.
+//! later entry from being given up. The events are made by `epoch_domain`.
 //!
 //! ```text
 //! let event = EpochEvent { seat: 0, act: EpochAct::Look(EventPlace::Cell(3)) };

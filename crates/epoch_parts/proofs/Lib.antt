@@ -1,0 +1,2 @@
+mod FirstWords
+pub mod Queues
