@@ -1,0 +1,12 @@
+pub mod InRange
+pub mod Steps
+pub mod Calls
+pub mod Contents
+pub mod Few
+pub mod Ending
+pub mod Openings
+pub mod Knowing
+pub mod Leavings
+pub mod Joining
+pub mod Wholes
+pub mod Images
