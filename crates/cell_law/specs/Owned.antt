@@ -1,0 +1,16 @@
+-- What the protocol owns: the cells of its range, and every object.
+use Rattle.std.specs.Prelude.{ℕ, ◌+◌, ◌<◌, ◌≤◌}
+use Rattle.plain_protocol.specs.Acts.{Owned}
+use Rattle.directory_law.specs.Cells.{Area}
+use Rattle.cell_law.specs.Views.{View, gone}
+
+abbrev pub owns : Area → Owned
+owns z = record {
+  cell = λ i. (z.first ≤ i) × (i < z.first + z.cells);
+  weak_cell = λ i. ⊥;
+  payload = λ words. Unit {0};
+  tickets = ⊥;
+}
+
+abbrev pub first_view : ℕ → View
+first_view n = gone
