@@ -1,0 +1,6 @@
+use Rattle.epoch_tests.specs.Plays.{Plays}
+use Rattle.epoch_tests.proofs.tests_threads.make_turns.Given as goal
+
+abbrev pub invariant-loop-turn : goal.invariant-loop-turn
+invariant-loop-turn l =
+    Plays l.domain l.player.seat l.player.strongs.items l.player.seen.items l.player.inside
