@@ -21,6 +21,7 @@ pub use Rattle.domain_audit.specs.heap_audit as heap_audit
 pub use Rattle.hand_queues.specs.linked_queue as linked_queue
 pub use Rattle.hand_queues.specs.part_calls as part_calls
 pub use Rattle.place_history.specs as place_history
+pub use Rattle.seat_life.specs.payload_reading as payload_reading
 pub use Rattle.domain_audit.specs.plain_audit as plain_audit
 pub use Rattle.domain_audit.specs.plain_protocol as plain_protocol
 pub use Rattle.domain_audit.specs.plain_state as plain_state
@@ -30,6 +31,7 @@ pub use Rattle.hand_queues.specs.queue_law as queue_law
 pub use Rattle.hand_queues.specs.queue_protocol as queue_protocol
 pub use Rattle.weak_intern.specs.record_making as record_making
 pub use Rattle.hand_queues.specs.retiring_stores as retiring_stores
+pub use Rattle.seat_life.specs as seat_life
 pub use Rattle.domain_audit.specs.slot_store as slot_store
 pub use Rattle.weak_intern.specs.snapshot_ptr as snapshot_ptr
 pub use Rattle.weak_intern.specs.text_reading as text_reading

@@ -1,8 +1,9 @@
 //! The face of the library: all that a program over a domain of counted objects lists and names.
 //!
 //! Here stand, layer by layer, the domain and its seats; payloads and deleters; handles and the calls that count and
-//! give up references; slots; strong places and snapshots; weak places and weak snapshots; the audit; and the
-//! protocols and deeds that a client gives to a domain, with `NoLaw` and `AnyStep` for one that has no law of its own.
+//! give up references; slots; strong places and snapshots; weak places and weak snapshots; the audit; a life of a domain,
+//! from its opening to its closing; and the protocols and deeds that a client gives to a domain, with `NoLaw` and
+//! `AnyStep` for one that has no law of its own.
 //! `queues` and `directory` have the two structures, `parts` the calls of one of several laws that share a domain.
 //! Each name is that of the crate which has it, with its contract, and nothing is proved here. The definitions that
 //! their contracts cite are passed on too: `Rattle.cdrc.specs.NAME` are those of the crate NAME.
@@ -54,6 +55,12 @@ pub use weak_intern::{
 
 // What lives, waits, or lies in a cycle.
 pub use domain_audit::{Audit, audit_domain};
+
+// A life of a domain: its seats, turns and threads, whole payloads, and its end.
+pub use seat_life::{
+    Done, Opened, Settled, close, in_threads, leave_all, open_seats, read_all, read_value, repeat,
+    settle_and_audit, store_value,
+};
 
 // Protocols: the laws of clients, and the deeds that tell of them.
 pub use domain_audit::{

@@ -1,0 +1,6 @@
+pub mod Settling
+pub mod Beginning
+pub mod Rests
+pub mod Given
+pub mod Noted
+pub mod Refused
