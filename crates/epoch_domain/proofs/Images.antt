@@ -7,17 +7,17 @@ use Rattle.atomic_table.specs.Table.{Me}
 use Rattle.atomic_table.specs.declared.shared.Seat.{Seat as TableSeat}
 use Rattle.core_law.proofs.Each.{get_each, length_each}
 use Rattle.core_law.proofs.Lists.{each_push, each_same}
-use Rattle.plain_state.specs.counter_word.Words.{ZERO}
-use Rattle.plain_state.specs.declared.image.Heap.{Heap}
-use Rattle.plain_state.specs.declared.image.SlotImage.{SlotImage}
-use Rattle.plain_state.specs.declared.slot.PlainSlot.{PlainSlot}
-use Rattle.plain_state.specs.declared.slot.SlotId.{SlotId}
-use Rattle.plain_state.specs.declared.slot.Stage.TheVariants.{Blank, Ended, Free, Live}
-use Rattle.plain_state.specs.Fits.{AllFit}
-use Rattle.plain_state.specs.Images.{IsImage, free_image, image_at, image_of}
-use Rattle.plain_state.specs.References.{own_reference, strong_refs, weak_refs}
-use Rattle.plain_state.specs.State.{PlainSeat, seat_at}
-use Rattle.plain_state.specs.Steps.{word_of}
+use Rattle.epoch_parts.specs.plain_state.counter_word.Words.{ZERO}
+use Rattle.epoch_parts.specs.plain_state.declared.image.Heap.{Heap}
+use Rattle.epoch_parts.specs.plain_state.declared.image.SlotImage.{SlotImage}
+use Rattle.epoch_parts.specs.plain_state.declared.slot.PlainSlot.{PlainSlot}
+use Rattle.epoch_parts.specs.plain_state.declared.slot.SlotId.{SlotId}
+use Rattle.epoch_parts.specs.plain_state.declared.slot.Stage.TheVariants.{Blank, Ended, Free, Live}
+use Rattle.epoch_parts.specs.plain_state.Fits.{AllFit}
+use Rattle.epoch_parts.specs.plain_state.Images.{IsImage, free_image, image_at, image_of}
+use Rattle.epoch_parts.specs.plain_state.References.{own_reference, strong_refs, weak_refs}
+use Rattle.epoch_parts.specs.plain_state.State.{PlainSeat, seat_at}
+use Rattle.epoch_parts.specs.plain_state.Steps.{word_of}
 use Rattle.epoch_rule.specs.epoch_core.core_events.Words.{each_from, slot_in}
 use Rattle.epoch_rule.specs.epoch_core.declared.act.Dated.{Dated}
 use Rattle.epoch_rule.specs.epoch_core.declared.shape.EpochShape.{EpochShape}

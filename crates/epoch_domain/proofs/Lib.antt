@@ -1,3 +1,4 @@
+pub mod Below
 pub mod InRange
 pub mod Steps
 pub mod Calls

@@ -6,8 +6,8 @@ use mathlib.Core.Option.{some}
 use lib.ListN.{get_elem?}
 use Rattle.atomic_table.specs.Table.{Seen, State}
 use Rattle.atomic_table.specs.declared.shared.Seat.{Seat as TableSeat}
-use Rattle.plain_state.specs.declared.image.Heap.{Heap}
-use Rattle.plain_state.specs.Images.{IsImage}
+use Rattle.epoch_parts.specs.plain_state.declared.image.Heap.{Heap}
+use Rattle.epoch_parts.specs.plain_state.Images.{IsImage}
 use Rattle.epoch_rule.specs.plain_protocol.plain_state.Fits.{AllFit}
 use Rattle.epoch_rule.specs.plain_protocol.plain_state.State.{Plain}
 use Rattle.epoch_rule.specs.epoch_core.core_events.declared.shape.Quota.{Quota}

@@ -1,8 +1,8 @@
 -- What a seat that is alone tells of the whole state.
 use Rattle.std.specs.Prelude.{ℕ, ◌≡◌, ◌-◌, ◌==◌, false, List, [], ◌∷◌, replicate, slice_index, if◌then◌else◌, Option, Some, None, IsSome}
 use Rattle.atomic_table.specs.declared.shared.Seat.{Seat as TableSeat}
-use Rattle.plain_state.specs.declared.image.Heap.{Heap}
-use Rattle.plain_state.specs.Images.{IsImage}
+use Rattle.epoch_parts.specs.plain_state.declared.image.Heap.{Heap}
+use Rattle.epoch_parts.specs.plain_state.Images.{IsImage}
 use Rattle.epoch_rule.specs.plain_protocol.plain_state.Fits.{AllFit}
 use Rattle.epoch_rule.specs.plain_protocol.plain_state.Lawful.{Lawful}
 use Rattle.epoch_rule.specs.plain_protocol.plain_state.State.{Plain}

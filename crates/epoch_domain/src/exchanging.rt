@@ -8,8 +8,9 @@ ghost use Rattle.epoch_domain.specs.Exchanging.{phase_taking};
 use crate::domain::EpochDomain;
 use crate::places::EPOCH;
 use crate::seat::EpochSeat;
-use core_functions::{found_in, held_as};
-use epoch_parts::{Dated, EpochAct, EpochOutcome, EpochPhase, EventPlace, SlotId};
+use epoch_parts::{
+    Dated, EpochAct, EpochOutcome, EpochPhase, EventPlace, SlotId, found_in, held_as,
+};
 use epoch_rule::{Deed, Protocol, Still};
 use std::marker::Brand;
 

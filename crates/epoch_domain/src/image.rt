@@ -1,8 +1,8 @@
 //! The whole state of a domain, as words.
 ghost use Rattle.std.specs.Prelude.{◌≡◌, ◌+◌, ◌<◌, ◌≤◌, [], false, IfOk, IsSome, OnOk};
 ghost use Rattle.epoch_parts.specs.Pending.{entries};
-ghost use Rattle.plain_state.specs.Limits.{words_of_payload};
-ghost use Rattle.plain_state.specs.Images.{IsImage, image_at};
+ghost use Rattle.epoch_parts.specs.plain_state.Limits.{words_of_payload};
+ghost use Rattle.epoch_parts.specs.plain_state.Images.{IsImage, image_at};
 ghost use Rattle.epoch_rule.specs.epoch_core.core_events.Words.{each_from};
 ghost use Rattle.epoch_rule.specs.epoch_core.Views.{IsIdle};
 ghost use Rattle.epoch_rule.specs.epoch_core.Words.{word_count};
@@ -12,9 +12,8 @@ ghost use Rattle.epoch_domain.specs.Wholes.{IsSame, IsWholeImage, KnowsCore, kno
 
 use crate::domain::EpochDomain;
 use crate::seat::EpochSeat;
-use epoch_parts::{EventPlace, OutOfMemory, Pending, SlotId};
+use epoch_parts::{EventPlace, Heap, OutOfMemory, Pending, SlotId, SlotImage};
 use epoch_rule::{EpochSeatView, Protocol};
-use plain_state::{Heap, SlotImage};
 use std::alloc::Global;
 
 /// The count word of a free slot, and the zero flag of an image.

@@ -36,10 +36,10 @@ mod seat;
 mod site;
 mod standing;
 
-pub use core_functions::held_as;
 pub use domain::EpochDomain;
 pub use epoch_parts::{
-    Dated, EpochOutcome, EpochPhase, EpochShape, EventPlace, OutOfMemory, Quota, SlotId,
+    Dated, EpochOutcome, EpochPhase, EpochShape, EventPlace, Heap, OutOfMemory, Quota, SlotId,
+    first_bad, held_as,
 };
 pub use epoch_rule::{AnyStep, Deed, NoLaw, Protocol, Still};
 pub use opening::open_domain;

@@ -22,10 +22,11 @@ mod fields;
 mod pending;
 
 pub use beginning::first_words;
-pub use core_functions::OutOfMemory;
+pub use core_functions::{OutOfMemory, found_in, held_as};
 pub use ended::Ended;
 pub use epoch_core::{
     Dated, EpochAct, EpochOutcome, EpochPhase, EpochShape, EventPlace, Quota, SlotId, Sweep,
 };
 pub use fields::first_bad;
 pub use pending::Pending;
+pub use plain_state::{Heap, SlotImage};

@@ -1,7 +1,7 @@
 -- Objects that a seat has ended are destroyed, one after another.
 use Rattle.std.proofs.Common.{◌≡◌, ℕ, ◌+◌, ◌*◌, ◌-◌, ◌^◌, ◌<◌, ◌≤◌, Bool, true, false, List, [], ◌∷◌, ◌++◌, length, get_or, refl, ap, sym, ◌∙◌, subst, arith}
 use Rattle.std.specs.Prelude.{min, if◌then◌else◌, IfSome, IsNone, ◌↔◌, Option, Some, None}
-use Rattle.core_law.proofs.Kit.{one_other, one_same, times_cons, times_none}
+use Rattle.epoch_domain.proofs.Below.core_law_Kit.{one_other, one_same, times_cons, times_none}
 use Rattle.std.proofs.lemmas.Bool.Decides.{nat_tests}
 use Rattle.epoch_domain.specs.plain_protocol.plain_state.declared.slot.SlotId.{SlotId}
 use Rattle.epoch_domain.specs.plain_protocol.plain_state.Lists.{is_slot, times}

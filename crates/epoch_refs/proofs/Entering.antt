@@ -1,6 +1,6 @@
 -- A region is opened.
 use Rattle.std.proofs.Common.{◌≡◌, ℕ, ◌+◌, ◌^◌, ◌<◌, List, [], ◌∷◌, ◌++◌, append_assoc, refl, ap, sym, ◌∙◌, subst, arith}
-use Rattle.epoch_core.proofs.Keeps.{history_sound}
+use Rattle.epoch_domain.proofs.Below.epoch_core_Keeps.{history_sound}
 use Rattle.epoch_domain.specs.epoch_core.declared.act.EpochAct.TheVariants as act
 use Rattle.epoch_domain.specs.epoch_core.declared.outcome.EpochOutcome.{EpochOutcome}
 use Rattle.epoch_domain.specs.epoch_core.declared.outcome.EpochOutcome.TheVariants as outcome

@@ -1,10 +1,10 @@
 -- A call that finds each slot taken shows that more makes were given than there are slots.
 use Rattle.std.proofs.Common.{◌≡◌, inl, inr, ⊎_elim, ℕ, ◌<◌, List, [], ◌∷◌, ◌++◌, length, refl, ap, sym, ◌∙◌, subst, arith}
-use Rattle.core_law.proofs.Kit.{one_other, slot_cases, times_cons, times_none}
-use Rattle.core_law.specs.core_events.declared.shape.Quota.{Quota}
+use Rattle.epoch_domain.proofs.Below.core_law_Kit.{one_other, slot_cases, times_cons, times_none}
+use Rattle.epoch_domain.specs.epoch_core.core_events.declared.shape.Quota.{Quota}
 use Rattle.epoch_claims.proofs.Taken.{taken_slots_were_made}
 use Rattle.epoch_claims.specs.Claims.{ShowsTaken, makes_given}
-use Rattle.epoch_core.proofs.Keeps.{history_sound}
+use Rattle.epoch_domain.proofs.Below.epoch_core_Keeps.{history_sound}
 use Rattle.epoch_domain.specs.plain_protocol.plain_state.declared.slot.SlotId.{SlotId}
 use Rattle.epoch_domain.specs.plain_protocol.plain_state.Lists.{times}
 use Rattle.epoch_domain.specs.epoch_core.declared.act.EpochEvent.{EpochEvent}

@@ -5,8 +5,8 @@ use Rattle.std.proofs.lemmas.Bool.{cases_eq}
 use Rattle.std.proofs.lemmas.Bool.Decides.{nat_tests}
 use Rattle.std.proofs.lemmas.List.{get_or-set_other, get_or-set_same, length-set}
 use Rattle.std.proofs.lemmas.Grind.{same_number_lists}
-use Rattle.core_law.proofs.Lists.{each_push}
-use Rattle.epoch_rule.proofs.Others.{fills_has}
+use Rattle.epoch_domain.proofs.Below.core_law_Lists.{each_push}
+use Rattle.epoch_domain.proofs.Below.epoch_rule_Others.{fills_has}
 use Rattle.epoch_domain.specs.domain_rule.Told.{changed_object}
 use Rattle.epoch_domain.specs.plain_protocol.plain_state.declared.act.PlainAct.TheVariants as plain
 use Rattle.epoch_domain.specs.plain_protocol.plain_state.declared.slot.SlotId.{SlotId}

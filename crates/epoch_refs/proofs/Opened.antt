@@ -2,7 +2,7 @@
 use Rattle.std.proofs.Common.{◌≡◌, ℕ, ◌+◌, ◌<◌, List, length, refl, ap, sym, ◌∙◌, subst, arith}
 use Rattle.std.specs.Prelude.{All, get_or, slice_index_or}
 use Rattle.std.proofs.lemmas.List.{get_or-map, length-map}
-use Rattle.core_law.proofs.Each.{get_each, length_each}
+use Rattle.epoch_domain.proofs.Below.core_law_Each.{get_each, length_each}
 use Rattle.epoch_domain.specs.epoch_core.Runs.{IsShape}
 use Rattle.epoch_domain.specs.Domains.{DomainState}
 use Rattle.epoch_domain.specs.Leavings.{TookOver}

@@ -3,7 +3,7 @@ use Rattle.std.proofs.Common.{◌≡◌, ℕ, ◌+◌, ◌<◌, ◌≤◌, Bool,
 use Rattle.std.specs.Prelude.{◌==◌, ◌-◌, ◌^◌, min, if◌then◌else◌, IfSome, Option, Some, None}
 use Rattle.std.specs.Option.{is_some}
 use Rattle.std.proofs.lemmas.List.{map-append}
-use Rattle.epoch_core.proofs.Kit.{dated_cons, dated_none}
+use Rattle.epoch_domain.proofs.Below.epoch_core_Kit.{dated_cons, dated_none}
 use Rattle.epoch_domain.specs.epoch_core.declared.act.Dated.{Dated}
 use Rattle.epoch_domain.specs.epoch_core.declared.act.EpochAct.TheVariants as act
 use Rattle.epoch_domain.specs.epoch_core.declared.outcome.EpochOutcome.{EpochOutcome}

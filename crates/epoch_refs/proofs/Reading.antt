@@ -2,10 +2,10 @@
 use Rattle.std.proofs.Common.{◌≡◌, ℕ, ◌+◌, ◌<◌, List, ap, sym, ◌∙◌, subst, arith}
 use Rattle.std.specs.Prelude.{slice_index}
 use Rattle.std.proofs.lemmas.List.{set-get_or}
-use Rattle.core_law.proofs.Each.{get_each}
-use Rattle.epoch_core.proofs.Bridge.{shown_slot}
-use Rattle.epoch_core.proofs.Keeps.{history_sound}
-use Rattle.epoch_rule.proofs.Others.{has_there}
+use Rattle.epoch_domain.proofs.Below.core_law_Each.{get_each}
+use Rattle.epoch_domain.proofs.Below.epoch_core_Bridge.{shown_slot}
+use Rattle.epoch_domain.proofs.Below.epoch_core_Keeps.{history_sound}
+use Rattle.epoch_domain.proofs.Below.epoch_rule_Others.{has_there}
 use Rattle.epoch_domain.specs.plain_protocol.plain_state.declared.slot.PlainSlot.{PlainSlot}
 use Rattle.epoch_domain.specs.plain_protocol.plain_state.declared.slot.SlotId.{SlotId}
 use Rattle.epoch_domain.specs.plain_protocol.Owns.{HasSlot, Object}

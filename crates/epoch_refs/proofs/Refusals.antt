@@ -1,14 +1,14 @@
 -- What a refusal to open tells of the shape.
 use Rattle.std.proofs.Common.{◌≡◌, List, Result, Err, Ok, refl, ap, subst, lit<, ◌∙◌}
 use Rattle.std.specs.Prelude.{◌↔◌}
-use Rattle.core_events.specs.declared.shape.Quota.{Quota}
-use Rattle.core_events.specs.declared.shape.ShapeField.{ShapeField}
-use Rattle.core_events.specs.declared.shape.ShapeField.TheVariants.{Seats, Slots, Cells, WeakCells, Batch, Quotas}
-use Rattle.acquire_retire.specs.declared.errors.OpenError.{OpenError}
-use Rattle.acquire_retire.specs.declared.errors.OpenError.TheVariants.{BadShape, OutOfMemory}
+use Rattle.epoch_domain.specs.epoch_core.core_events.declared.shape.Quota.{Quota}
+use Rattle.epoch_domain.specs.epoch_core.core_events.declared.shape.ShapeField.{ShapeField}
+use Rattle.epoch_domain.specs.epoch_core.core_events.declared.shape.ShapeField.TheVariants.{Seats, Slots, Cells, WeakCells, Batch, Quotas}
+use Rattle.control_word.specs.acquire_retire.declared.errors.OpenError.{OpenError}
+use Rattle.control_word.specs.acquire_retire.declared.errors.OpenError.TheVariants.{BadShape, OutOfMemory}
 use Rattle.epoch_domain.specs.epoch_core.declared.shape.EpochShape.{EpochShape}
 use Rattle.epoch_domain.specs.epoch_core.Runs.{AreQuotas, IsShape}
-use Rattle.epoch_parts.specs.Fields.{IsFirstBad}
+use Rattle.epoch_domain.specs.epoch_parts.Fields.{IsFirstBad}
 
 module _ (z : EpochShape) (quotas : List Quota) where
   -- of two fields the earlier one would be out of its range and in it

@@ -2,9 +2,9 @@
 use Rattle.std.proofs.Common.{◌≡◌, ⊎_elim, ℕ, zero, suc, ◌+◌, ◌-◌, ◌<◌, ◌≤◌, List, [], ◌∷◌, ◌++◌, length, ap, sym, ◌∙◌, arith}
 use Rattle.std.proofs.lemmas.Bool.{cases_lt}
 use Rattle.std.proofs.lemmas.List.{length-append}
-use Rattle.core_law.proofs.Each.{length_each}
-use Rattle.core_law.proofs.Kit.{one_other, one_same, times_append, times_cons, times_none}
-use Rattle.core_law.proofs.Lists.{each_push}
+use Rattle.epoch_domain.proofs.Below.core_law_Each.{length_each}
+use Rattle.epoch_domain.proofs.Below.core_law_Kit.{one_other, one_same, times_append, times_cons, times_none}
+use Rattle.epoch_domain.proofs.Below.core_law_Lists.{each_push}
 use Rattle.epoch_domain.specs.plain_protocol.plain_state.declared.slot.SlotId.{SlotId}
 use Rattle.epoch_domain.specs.plain_protocol.plain_state.Lists.{times}
 use Rattle.epoch_domain.specs.epoch_core.declared.shape.EpochShape.{EpochShape}

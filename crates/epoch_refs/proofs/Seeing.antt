@@ -4,11 +4,11 @@ use Rattle.std.specs.Prelude.{slice_index}
 use Rattle.std.proofs.lemmas.Bool.{cases_eq}
 use Rattle.std.proofs.lemmas.Bool.Decides.{nat_tests}
 use Rattle.std.proofs.lemmas.List.{ext_get_or, get_or-set_other, get_or-set_same, length-set}
-use Rattle.epoch_core.proofs.Keeps.{history_sound}
-use Rattle.epoch_core.proofs.Kit.{total_at}
-use Rattle.epoch_core.proofs.Parts.{by}
-use Rattle.epoch_core.proofs.Bridge.{shown_stage}
-use Rattle.epoch_rule.proofs.Others.{has_there}
+use Rattle.epoch_domain.proofs.Below.epoch_core_Keeps.{history_sound}
+use Rattle.epoch_domain.proofs.Below.epoch_core_Kit.{total_at}
+use Rattle.epoch_domain.proofs.Below.epoch_core_Parts.{by}
+use Rattle.epoch_domain.proofs.Below.epoch_core_Bridge.{shown_stage}
+use Rattle.epoch_domain.proofs.Below.epoch_rule_Others.{has_there}
 use Rattle.epoch_domain.specs.plain_protocol.plain_state.Lists.{times}
 use Rattle.epoch_domain.specs.plain_protocol.plain_state.declared.slot.SlotId.{SlotId}
 use Rattle.epoch_domain.specs.plain_protocol.Owns.{HasSlot, Object}

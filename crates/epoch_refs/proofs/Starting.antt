@@ -3,11 +3,11 @@ use Rattle.std.proofs.Common.{◌≡◌, ◌≢◌, ◌⊎◌, inl, inr, ⊎_eli
 use Rattle.std.specs.Prelude.{Option, None, Some}
 use Rattle.std.proofs.lemmas.Bool.Decides.{nat_tests}
 use Rattle.std.proofs.lemmas.List.{length-append, length-map}
-use Rattle.core_law.proofs.Kit.{one_same, times_push}
-use Rattle.epoch_core.proofs.Held.{held_of, held_refs, named_in_range}
-use Rattle.epoch_core.proofs.Keeps.{history_sound}
-use Rattle.epoch_core.proofs.Kit.{total_at}
-use Rattle.epoch_rule.proofs.Others.{fills_has, has_how, held_has, held_counts}
+use Rattle.epoch_domain.proofs.Below.core_law_Kit.{one_same, times_push}
+use Rattle.epoch_domain.proofs.Below.epoch_core_Held.{held_of, held_refs, named_in_range}
+use Rattle.epoch_domain.proofs.Below.epoch_core_Keeps.{history_sound}
+use Rattle.epoch_domain.proofs.Below.epoch_core_Kit.{total_at}
+use Rattle.epoch_domain.proofs.Below.epoch_rule_Others.{fills_has, has_how, held_has, held_counts}
 use Rattle.epoch_domain.specs.domain_rule.Told.{changed_object}
 use Rattle.epoch_domain.specs.plain_protocol.plain_state.declared.act.PlainAct.{PlainAct}
 use Rattle.epoch_domain.specs.plain_protocol.plain_state.declared.act.PlainAct.TheVariants as plain

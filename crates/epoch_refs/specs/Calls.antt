@@ -3,9 +3,9 @@ use Rattle.std.specs.Prelude.{ℕ, ◌≡◌, ◌+◌, List, [], ◌∷◌, ◌+
 use Rattle.epoch_domain.specs.plain_protocol.plain_state.declared.act.EventPlace.{EventPlace}
 use Rattle.epoch_domain.specs.plain_protocol.plain_state.declared.act.EventPlace.TheVariants.{Cell, Field}
 use Rattle.epoch_domain.specs.plain_protocol.plain_state.declared.slot.SlotId.{SlotId}
-use Rattle.counted_handles.specs.declared.place.Place.{Place}
-use Rattle.counted_handles.specs.declared.place.Place.TheVariants as place
-use Rattle.counted_handles.specs.Handles.{Handle}
+use Rattle.control_word.specs.counted_handles.declared.place.Place.{Place}
+use Rattle.control_word.specs.counted_handles.declared.place.Place.TheVariants as place
+use Rattle.control_word.specs.counted_handles.Handles.{Handle}
 use Rattle.epoch_domain.specs.epoch_core.declared.act.EpochAct.TheVariants as act
 use Rattle.epoch_domain.specs.epoch_core.declared.outcome.EpochOutcome.TheVariants as outcome
 use Rattle.epoch_domain.specs.epoch_core.declared.view.EpochView.{EpochView}

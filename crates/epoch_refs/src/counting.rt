@@ -9,7 +9,7 @@ ghost use Rattle.epoch_domain.specs.epoch_rule.Views.{object_in};
 ghost use Rattle.epoch_refs.specs.Calls.{IsSpent};
 ghost use Rattle.epoch_refs.specs.Walks.{IsAtRest};
 
-use counted_handles::{Spent, Strong};
+use control_word::{Spent, Strong};
 use epoch_domain::{EpochDomain, EpochOutcome, EpochSeat, Protocol, SlotId};
 
 /// One more reference to a slot that the seat owns or its region has seen. `Spent` comes exactly where the seat has no

@@ -1,6 +1,6 @@
 //! The third part of a flush: what has ended is destroyed.
 ghost use Rattle.std.specs.Prelude.{◌≡◌, ◌<◌, ◌≤◌, ◌+◌, ◌*◌, ◌-◌, ◌^◌, ◌∷◌, ℕ, List, length, min};
-ghost use Rattle.deleter.specs.Weighing.{Weighs};
+ghost use Rattle.slot_store.specs.deleter.Weighing.{Weighs};
 ghost use Rattle.epoch_domain.specs.plain_protocol.plain_state.Lists.{times};
 ghost use Rattle.epoch_domain.specs.plain_protocol.plain_state.declared.act.EventPlace.TheVariants.{Field};
 ghost use Rattle.epoch_domain.specs.plain_protocol.plain_state.declared.slot.SlotId.{SlotId};
@@ -11,8 +11,8 @@ ghost use Rattle.epoch_refs.specs.Flushing.{Clears, Destroys, DestroysEach, IsFl
 ghost use Rattle.epoch_refs.specs.Walks.{IsAtRest, Walks};
 
 use crate::exchanges::date_taken;
-use deleter::Deleter;
 use epoch_domain::{EpochDomain, EpochOutcome, EpochSeat, Protocol, SlotId};
+use slot_store::Deleter;
 
 /// Leaves a field of a slot that the seat has ended null. Two events, or one where it was null.
 fn clear_field<P: Protocol>(

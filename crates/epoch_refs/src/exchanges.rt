@@ -10,7 +10,7 @@ ghost use Rattle.epoch_refs.specs.Exchanges.{Dates, IsExchanged, IsStored, IsUnc
 ghost use Rattle.epoch_refs.specs.Walks.{IsAtRest};
 
 use crate::places::event_place;
-use counted_handles::{Place, Strong};
+use control_word::{Place, Strong};
 use epoch_domain::{Deed, EpochDomain, EpochOutcome, EpochSeat, Protocol, SlotId, held_as};
 use out_of_memory::Back;
 use std::alloc::Global;

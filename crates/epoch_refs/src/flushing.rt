@@ -1,6 +1,6 @@
 //! A flush: the epoch is advanced, what is due is given up, and what has ended is destroyed.
 ghost use Rattle.std.specs.Prelude.{IfOk, OnErr};
-ghost use Rattle.deleter.specs.Weighing.{Weighs};
+ghost use Rattle.slot_store.specs.deleter.Weighing.{Weighs};
 ghost use Rattle.epoch_refs.specs.Exchanges.{IsUnchanged};
 ghost use Rattle.epoch_refs.specs.Flushing.{Flushes};
 ghost use Rattle.epoch_refs.specs.Walks.{IsAtRest};
@@ -8,8 +8,8 @@ ghost use Rattle.epoch_refs.specs.Walks.{IsAtRest};
 use crate::destroying::destroy_all;
 use crate::paying::pay_due;
 use crate::sweeping::sweep;
-use deleter::Deleter;
 use epoch_domain::{EpochDomain, EpochSeat, OutOfMemory, Protocol};
+use slot_store::Deleter;
 use std::alloc::Global;
 
 /// No memory has room for twice as many entries.

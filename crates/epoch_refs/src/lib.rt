@@ -32,8 +32,7 @@ mod places;
 mod regions;
 mod sweeping;
 
-pub use acquire_retire::OpenError;
-pub use counted_handles::{Place, Spent, Strong};
+pub use control_word::{OpenError, Place, Spent, Strong};
 pub use counting::{e_copy, e_drop, e_keep, e_read};
 pub use epoch_domain::{
     AnyStep, Deed, EpochDomain, EpochSeat, EpochSeatOf, EpochShape, NoLaw, OutOfMemory, Protocol,

@@ -1,7 +1,7 @@
 //! How a domain under epochs begins and ends.
 ghost use Rattle.std.specs.Prelude.{◌≡◌, ◌↔◌, ◌+◌, ◌-◌, ◌^◌, All, Err, IfOk, OnOk, length, min, slice_index_or};
-ghost use Rattle.core_events.specs.declared.shape.ShapeField.{ShapeField};
-ghost use Rattle.acquire_retire.specs.declared.errors.OpenError.TheVariants.{BadShape};
+ghost use Rattle.epoch_domain.specs.epoch_core.core_events.declared.shape.ShapeField.{ShapeField};
+ghost use Rattle.control_word.specs.acquire_retire.declared.errors.OpenError.TheVariants.{BadShape};
 ghost use Rattle.epoch_domain.specs.epoch_core.Runs.{AreQuotas, IsShape};
 ghost use Rattle.epoch_domain.specs.epoch_core.Steps.{CanLeave};
 ghost use Rattle.epoch_domain.specs.epoch_rule.Views.{IsAlone};
@@ -10,13 +10,13 @@ ghost use Rattle.epoch_domain.specs.Leavings.{TookOver};
 ghost use Rattle.epoch_domain.specs.Openings.{AreOpened};
 ghost use Rattle.epoch_domain.specs.Seats.{SeatState};
 ghost use Rattle.epoch_domain.specs.Wholes.{IsLast, IsWholeImage};
-ghost use Rattle.epoch_parts.specs.Fields.{IsFirstBad};
+ghost use Rattle.epoch_domain.specs.epoch_parts.Fields.{IsFirstBad};
 ghost use Rattle.epoch_refs.specs.Walks.{IsAtRest, IsFree};
 
-use acquire_retire::OpenError;
-use epoch_domain::{EpochDomain, EpochSeat, EpochShape, OutOfMemory, Protocol, Quota, open_domain};
-use epoch_parts::first_bad;
-use plain_state::Heap;
+use control_word::OpenError;
+use epoch_domain::{
+    EpochDomain, EpochSeat, EpochShape, Heap, OutOfMemory, Protocol, Quota, first_bad, open_domain,
+};
 use std::alloc::Global;
 
 /// A domain in which nothing has happened, and its seats in order, one for each quota.

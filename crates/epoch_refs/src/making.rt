@@ -12,7 +12,7 @@ ghost use Rattle.epoch_refs.specs.Searching.{IsFull};
 ghost use Rattle.epoch_refs.specs.Walks.{IsAtRest};
 
 use crate::claiming::claim_any;
-use counted_handles::Strong;
+use control_word::Strong;
 use epoch_domain::{Deed, EpochDomain, EpochSeat, Protocol, SlotId};
 use slot_store::MakeError;
 

@@ -7,7 +7,7 @@ ghost use Rattle.epoch_domain.specs.epoch_core.Views.{IsInside, IsOpen};
 ghost use Rattle.epoch_refs.specs.Calls.{event_place};
 ghost use Rattle.epoch_refs.specs.Walks.{IsAtRest};
 
-use counted_handles::Place;
+use control_word::Place;
 use epoch_domain::{Deed, EpochDomain, EpochOutcome, EpochSeat, EventPlace, Protocol, SlotId};
 
 /// A place, as events name it.

@@ -16,7 +16,7 @@ use Rattle.directory_calls.specs.directory_law.Payloads.{IsPart, Text}
 use Rattle.directory_calls.specs.Steps.{Leaves}
 use Rattle.directory_calls.proofs.Parts.{Place}
 use Rattle.record_making.specs.Making.{AddsAsMakes, HasText, Notes, NotesOnly, PutsBefore, candidate_in, made_by, with_notes}
-use Rattle.record_making.specs.Texts.{part_of, parts_after, parts_of}
+use Rattle.record_texts.specs.Texts.{part_of, parts_after, parts_of}
 use Rattle.record_making.proofs.Noted.{has_text, noted_so, notes_then, only_then}
 use Rattle.record_making.proofs.Before.{taken_over}
 

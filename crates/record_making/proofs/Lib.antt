@@ -1,5 +1,4 @@
 pub mod Below
-pub mod Packed
 pub mod Made
 pub mod Dropped
 pub mod Linked

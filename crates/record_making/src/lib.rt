@@ -10,13 +10,10 @@
 //!
 //! ```text
 //! let head = make_record(&domain, &mut seat, text)?;     // or MakesSpent, AddsSpent, Full
-//! let payload = head_of(b"ab");                          // word 0 is 2, word 1 is 25185
-//! let cell = cell_on(hash_of(b"ab"), 0, 10);             // cell 5, at which the walk of that text begins
 //! ```
 #![tactic(auto)]
 
 mod making;
-mod texts;
 mod unless_ripe;
 
 pub use atomic_shared::{Lost, load, store, try_load, try_replace};
@@ -25,6 +22,6 @@ pub use directory_calls::{
     LookAtCell, RecordKind, SeeHead, UpgradeHead,
 };
 pub use making::make_record;
+pub use record_texts::{cell_on, hash_of, head_of, part_at};
 pub use slot_store::{InPart, MakeError, read};
-pub use texts::{cell_on, hash_of, head_of, part_at};
 pub use unless_ripe::UnlessRipe;

@@ -12,12 +12,12 @@ ghost use Rattle.directory_calls.specs.directory_law.Bytes.{IsPiece, IsTextOf};
 ghost use Rattle.directory_calls.specs.directory_law.Payloads.{IsOwn, IsPart};
 ghost use Rattle.directory_calls.specs.Steps.{Leaves, handle_by, with_found};
 ghost use Rattle.record_making.specs.Making.{AddsAsMakes, HasText, HasTwo, Links, MissesWithin, Notes, NotesOnly, PutsBefore, candidate_in, made_by, with_notes};
-ghost use Rattle.record_making.specs.Texts.{parts_after, parts_of, text_of};
+ghost use Rattle.record_texts.specs.Texts.{parts_after, parts_of, text_of};
 
-use crate::texts::{head_of, part_at};
 use crate::unless_ripe::UnlessRipe;
 use atomic_shared::{Place, SlotId, Strong, drop_strong, store};
 use directory_calls::{DirectoryLaw, HasDirectory, LinkPart, MakeSlot};
+use record_texts::{head_of, part_at};
 use slot_store::{Domain, InPart, MakeError, Seat, make};
 
 /// Makes the slots of a text of 1 to 4,096 bytes, the last part first, and links each to the one that was made before

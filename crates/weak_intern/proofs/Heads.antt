@@ -5,7 +5,7 @@ use Rattle.record_making.specs.directory_law.Payloads.{IsRest, IsText, Text, siz
 use Rattle.record_making.specs.directory_law.Places.{hash_on}
 use Rattle.record_making.proofs.Below.directory_law_Bytes.{text_place}
 use Rattle.record_making.specs.Texts.{parts_after, parts_of, payload_of, text_of}
-use Rattle.record_making.proofs.Packed.{begins_so, bytes_small, is_text_of, packs}
+use Rattle.record_making.proofs.Below.record_texts_Packed.{begins_so, bytes_small, is_text_of, packs}
 use Rattle.weak_intern.specs.Sought.{IsSought}
 
 -- nothing follows a head that tells at most 120 bytes

@@ -1,7 +1,7 @@
 use Rattle.std.proofs.Common.{subst}
 use Rattle.epoch_domain.specs.Calls.{IsSameView, Steps, same_view}
 use Rattle.epoch_domain.specs.epoch_core.declared.act.EpochAct.TheVariants as act
-use Rattle.epoch_rule.proofs.Others.{held_has}
+use Rattle.epoch_domain.proofs.Below.epoch_rule_Others.{held_has}
 use Rattle.epoch_refs.proofs.Reading.{read_made}
 use Rattle.epoch_refs.proofs.counting.e_read.Goals as goal
 

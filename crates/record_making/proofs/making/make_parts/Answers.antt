@@ -4,8 +4,8 @@ use Rattle.directory_calls.specs.Steps.{Leaves, handle_by, with_found}
 use Rattle.directory_calls.proofs.Parts.{place_of}
 use Rattle.directory_calls.specs.directory_law.Bytes.{IsPiece}
 use Rattle.directory_calls.specs.directory_law.Payloads.{IsPart}
-use Rattle.record_making.specs.Texts.{parts_after}
-use Rattle.record_making.proofs.Packed.{part_at_is, part_piece}
+use Rattle.record_texts.specs.Texts.{parts_after}
+use Rattle.record_texts.proofs.Packed.{part_at_is, part_piece}
 use Rattle.record_making.proofs.Noted.{misses_after, on_err, same_refusal}
 use Rattle.record_making.proofs.Chained.{chain_done, chain_first, chain_leaves, chain_on, chain_only, chain_text, offset}
 use Rattle.record_making.proofs.making.make_parts.Goals as goal

@@ -4,8 +4,8 @@ use Rattle.std.proofs.Common.{◌+◌, [], ◌∷◌, ap, arith, drop, length, �
 use Rattle.directory_calls.specs.Steps.{handle_by}
 use Rattle.directory_calls.proofs.Parts.{place_of}
 use Rattle.directory_calls.specs.directory_law.Bytes.{IsPiece}
-use Rattle.record_making.specs.Texts.{parts_after, parts_of, text_of}
-use Rattle.record_making.proofs.Packed.{begins_so, head_piece, short_is, is_text_of}
+use Rattle.record_texts.specs.Texts.{parts_after, parts_of, text_of}
+use Rattle.record_texts.proofs.Packed.{begins_so, head_piece, short_is, is_text_of}
 use Rattle.record_making.proofs.Noted.{all_before, alone_noted, has_text, misses_after, only_if, same_refusal}
 use Rattle.record_making.proofs.Before.{taken_over}
 use Rattle.record_making.proofs.Chained.{one_make, one_make_more}

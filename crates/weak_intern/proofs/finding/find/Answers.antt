@@ -1,7 +1,7 @@
 use Rattle.std.proofs.Common.{ap, arith, length, refl, subst, take}
 use Rattle.record_making.specs.directory_calls.Directories.{area_of}
 use Rattle.record_making.specs.Texts.{payload_of, text_of}
-use Rattle.record_making.proofs.Packed.{is_text_of}
+use Rattle.record_making.proofs.Below.record_texts_Packed.{is_text_of}
 use Rattle.weak_intern.specs.Walking.{CostsBy}
 use Rattle.weak_intern.proofs.Heads.{sought_is}
 use Rattle.weak_intern.proofs.Answered.{came_to_none, came_to_record}

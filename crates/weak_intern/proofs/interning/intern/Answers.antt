@@ -6,7 +6,7 @@ use Rattle.weak_intern.specs.Interning.{interned_by}
 use Rattle.record_making.specs.directory_calls.Steps.{handle_by}
 use Rattle.record_making.specs.Texts.{text_of}
 use Rattle.record_making.proofs.Noted.{misses_after}
-use Rattle.record_making.proofs.Packed.{is_text_of}
+use Rattle.record_making.proofs.Below.record_texts_Packed.{is_text_of}
 use Rattle.weak_intern.proofs.Heads.{sought_is}
 use Rattle.weak_intern.proofs.Interned.{absent_learns, absent_leaves, absent_none, added_grows, added_leaves, added_none, all_interns, all_knows, answered_owned, walked_interns, walked_knows, walked_owned}
 use Rattle.record_making.proofs.Below.directory_calls_Parts.{place_of}

@@ -1,8 +1,8 @@
 use Rattle.std.proofs.Common.{◌≡◌, ◌+◌, ◌++◌, List, map, ap, ◌∙◌}
-use Rattle.plain_state.specs.declared.image.Heap.{Heap}
-use Rattle.plain_state.specs.Images.{IsImage, image_at}
-use Rattle.plain_state.specs.Lists.{Entry}
-use Rattle.plain_state.specs.State.{Plain}
+use Rattle.epoch_parts.specs.plain_state.declared.image.Heap.{Heap}
+use Rattle.epoch_parts.specs.plain_state.Images.{IsImage, image_at}
+use Rattle.epoch_parts.specs.plain_state.Lists.{Entry}
+use Rattle.epoch_parts.specs.plain_state.State.{Plain}
 use Rattle.epoch_rule.specs.epoch_core.core_events.Words.{each_from}
 use Rattle.epoch_rule.specs.epoch_core.declared.shape.EpochShape.{EpochShape}
 use Rattle.epoch_parts.specs.Pending.{deferred_of, entries}

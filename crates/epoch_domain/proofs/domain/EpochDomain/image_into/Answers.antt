@@ -1,6 +1,6 @@
 use Rattle.std.proofs.Common.{subst}
-use Rattle.plain_state.specs.Images.{IsImage}
-use Rattle.plain_state.specs.State.{Plain}
+use Rattle.epoch_parts.specs.plain_state.Images.{IsImage}
+use Rattle.epoch_parts.specs.plain_state.State.{Plain}
 use Rattle.epoch_domain.specs.Wholes.{IsWholeImage, known_state}
 use Rattle.epoch_domain.proofs.Images.{same_state}
 use Rattle.epoch_domain.proofs.Wholes.{then_ok, whole_image}

@@ -1,7 +1,7 @@
 use Rattle.std.proofs.Common.{◌≡◌, ℕ, ap, ◌∙◌, rules}
-use Rattle.plain_state.specs.declared.image.SlotImage.{SlotImage}
-use Rattle.plain_state.specs.Images.{image_at}
-use Rattle.plain_state.specs.State.{Plain}
+use Rattle.epoch_parts.specs.plain_state.declared.image.SlotImage.{SlotImage}
+use Rattle.epoch_parts.specs.plain_state.Images.{image_at}
+use Rattle.epoch_parts.specs.plain_state.State.{Plain}
 use Rattle.epoch_domain.specs.Wholes.{known_state}
 use Rattle.epoch_domain.proofs.Images.{one_each, same_state}
 use Rattle.epoch_domain.proofs.domain.EpochDomain.slot_images.Goals as goal

@@ -1,5 +1,5 @@
 use Rattle.std.proofs.Common.{◌≡◌, ◌≤◌, vec_capacity, vec_len}
-use Rattle.plain_state.specs.Images.{image_at}
+use Rattle.epoch_parts.specs.plain_state.Images.{image_at}
 use Rattle.epoch_rule.specs.epoch_core.core_events.Words.{each_from}
 use Rattle.epoch_domain.specs.Wholes.{IsSame, known_state}
 use Rattle.epoch_domain.proofs.domain.EpochDomain.slot_images.Given as goal

@@ -1,6 +1,6 @@
 use Rattle.std.proofs.Common.{◌≡◌, ◌<◌, ◌^◌, drop}
-use Rattle.directory_calls.specs.directory_law.Places.{hash_on}
-use Rattle.record_making.proofs.texts.hash_of.Given as goal
+use Rattle.directory_law.specs.Places.{hash_on}
+use Rattle.record_texts.proofs.texts.hash_of.Given as goal
 
 abbrev pub invariant-loop-byte : goal.invariant-loop-byte
 invariant-loop-byte l = record {

@@ -1,8 +1,8 @@
 -- The text that some bytes have.
 use Rattle.std.specs.Prelude.{ℕ, zero, suc, ◌+◌, ◌-◌, List, [], ◌∷◌, take, drop, length}
 use Rattle.std.specs.Int.{div_ceil}
-use Rattle.atomic_shared.specs.plain_state.Records.{word_of_bytes}
-use Rattle.directory_calls.specs.directory_law.Payloads.{Text}
+use Rattle.plain_state.specs.Records.{word_of_bytes}
+use Rattle.directory_law.specs.Payloads.{Text}
 
 -- so many words with eight bytes each, the first byte lowest, and then zeros
 unfoldable pub words_of : ℕ → List ℕ → List ℕ

@@ -6,10 +6,10 @@ use Rattle.std.proofs.lemmas.Bool.{cases_lt}
 use Rattle.std.proofs.lemmas.List.{take_all, drop-drop, ext_get_or, get_or-set_other, length-drop, length-set, length-take}
 use Rattle.std.proofs.lemmas.Grind.{get_or-set_at}
 use Rattle.std.proofs.lemmas.List.Elements.{All-drop, All-from_get_or, All-take}
-use Rattle.atomic_shared.specs.plain_state.Records.{IsRecordOf, eight_bytes, word_of_bytes}
-use Rattle.directory_calls.specs.directory_law.Bytes.{ArePartsOf, AreBytes, IsPiece, IsTextOf, Packs}
-use Rattle.directory_calls.specs.directory_law.Payloads.{IsPart}
-use Rattle.record_making.specs.Texts.{part_of, parts_after, parts_of, payload_of, text_of, words_of}
+use Rattle.plain_state.specs.Records.{IsRecordOf, eight_bytes, word_of_bytes}
+use Rattle.directory_law.specs.Bytes.{ArePartsOf, AreBytes, IsPiece, IsTextOf, Packs}
+use Rattle.directory_law.specs.Payloads.{IsPart}
+use Rattle.record_texts.specs.Texts.{part_of, parts_after, parts_of, payload_of, text_of, words_of}
 
 -- A PAYLOAD
 words_length : (n : ℕ) (bytes : List ℕ) → length (words_of n bytes) ≡ n

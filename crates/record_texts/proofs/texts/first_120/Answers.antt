@@ -1,6 +1,6 @@
 use Rattle.std.proofs.Common.{◌∙◌}
-use Rattle.record_making.proofs.Packed.{take_fewer}
-use Rattle.record_making.proofs.texts.first_120.Goals as goal
+use Rattle.record_texts.proofs.Packed.{take_fewer}
+use Rattle.record_texts.proofs.texts.first_120.Goals as goal
 
 pub returns : goal.returns
 returns c =

@@ -1,9 +1,9 @@
 //! Texts as the payloads of slots, and where their walks begin.
 ghost use Rattle.std.specs.Prelude.{◌≡◌, ◌≤◌, ◌<◌, ◌+◌, ◌*◌, ◌%◌, ◌^◌, length, take, drop};
-ghost use Rattle.directory_calls.specs.directory_law.Places.{hash_on};
-ghost use Rattle.record_making.specs.Texts.{part_of, payload_of};
+ghost use Rattle.directory_law.specs.Places.{hash_on};
+ghost use Rattle.record_texts.specs.Texts.{part_of, payload_of};
 
-use atomic_shared::record_of;
+use plain_state::record_of;
 
 /// The payload of the head of a text of 1 to 4,096 bytes: their number, and the first 120 of them.
 pub fn head_of(text: &[u8]) -> [u64; 16]

@@ -1,5 +1,5 @@
-use Rattle.record_making.proofs.Packed.{numbered}
-use Rattle.record_making.proofs.texts.piece.Goals as goal
+use Rattle.record_texts.proofs.Packed.{numbered}
+use Rattle.record_texts.proofs.texts.piece.Goals as goal
 
 pub returns : goal.returns
 returns c =

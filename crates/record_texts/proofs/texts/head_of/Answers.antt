@@ -1,5 +1,5 @@
-use Rattle.record_making.proofs.Packed.{fit}
-use Rattle.record_making.proofs.texts.head_of.Goals as goal
+use Rattle.record_texts.proofs.Packed.{fit}
+use Rattle.record_texts.proofs.texts.head_of.Goals as goal
 
 pub piece-requires : goal.piece-requires
 piece-requires c =

@@ -1,6 +1,6 @@
 use Rattle.std.proofs.Common.{arith}
-use Rattle.record_making.proofs.Packed.{fit}
-use Rattle.record_making.proofs.texts.part_at.Goals as goal
+use Rattle.record_texts.proofs.Packed.{fit}
+use Rattle.record_texts.proofs.texts.part_at.Goals as goal
 
 pub piece-requires : goal.piece-requires
 piece-requires c =
