@@ -1,10 +1,8 @@
 //! Scripts for two seats, each act beside the answer that was worked out by the rules: an entry is dated with the epoch
 //! that stands once it has left its place; a flush makes the epoch one later where each open region began in it, and
 //! then pays what was dated two epochs before.
-use crate::acts::{Act, Said, Spot};
-use crate::opening::WIDE;
-use crate::playing::Line;
-use crate::playing::Who::{First, Second};
+use epoch_players::Who::{First, Second};
+use epoch_players::{Act, Line, Said, Spot, WIDE};
 use epoch_refs::Quota;
 
 /// A script for two seats, of which the first has this quota, in a domain with so many slots and two cells.

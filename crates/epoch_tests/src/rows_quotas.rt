@@ -1,7 +1,7 @@
 //! Scripts in which a seat has used up its quota, or no slot is free.
-use crate::acts::{Act, Said, Spot};
-use crate::playing::Who::{First, Second};
 use crate::rows::{ROW, Row};
+use epoch_players::Who::{First, Second};
+use epoch_players::{Act, Said, Spot};
 use epoch_refs::Quota;
 
 const CELL: Spot = Spot::Cell(0);

@@ -1,18 +1,17 @@
 //! Two seats play scripts whose answers were worked out by the rules.
 ghost use Rattle.std.specs.Prelude.{IfOk};
 ghost use Rattle.epoch_refs.specs.Walks.{IsFree};
-ghost use Rattle.epoch_tests.specs.Plays.{Plays};
+ghost use Rattle.epoch_players.specs.Plays.{Plays};
 
-use crate::acts::{Act, Said, Spot};
-use crate::ending::{clear_all, flush_all, give_back, hand_back, is_empty};
-use crate::opening::{Opened, WIDE, open, player_of, take_last};
-use crate::player::{Objects, Player};
-use crate::playing::Who::{First, Second};
-use crate::playing::{Line, play_on, run};
 use crate::rows::{ROWS, Row};
 use crate::rows_quotas::ROWS_QUOTAS;
 use acquire_retire::ShapeField;
 use deleter::{Heap, ZERO};
+use epoch_players::Who::{First, Second};
+use epoch_players::{
+    Act, Line, Objects, Opened, Player, Said, Spot, WIDE, clear_all, flush_all, give_back,
+    hand_back, is_empty, open, play_on, player_of, run, take_last,
+};
 use epoch_refs::{EpochShape, OpenError, Quota, e_close, e_image, e_leave, open_epoch};
 use std::alloc::Global;
 use std::process::Abort;

@@ -1,14 +1,13 @@
 //! A reader stays in its region, in a thread of its own, while another seat stores and flushes.
 ghost use Rattle.std.specs.Prelude.{All, IfOk, IfSome, OnOk};
-ghost use Rattle.epoch_tests.specs.Plays.{Plays};
+ghost use Rattle.epoch_players.specs.Plays.{Plays};
 
-use crate::acts::{Act, Said, Spot};
-use crate::ending::{give_back, taken};
-use crate::opening::{Opened, WIDE, open, player_of, take_last};
-use crate::player::{Objects, Player};
-use crate::playing::Who::{First, Second};
-use crate::playing::{Line, play_on, run};
 use deleter::{Heap, ZERO};
+use epoch_players::Who::{First, Second};
+use epoch_players::{
+    Act, Line, Objects, Opened, Player, Said, Spot, WIDE, give_back, open, play_on, player_of, run,
+    take_last, taken,
+};
 use epoch_refs::{EpochDomain, EpochShape, e_image, e_leave};
 use std::alloc::AllocError;
 use std::test::Fail;
@@ -17,10 +16,10 @@ use std::thread::Threads;
 
 const CELLS: u32 = 16;
 
-const STORES: u32 = 1_000;
+const STORES: u32 = 100_000;
 
 /// A power of two, and enough for all objects that the writer makes.
-const SLOTS: u32 = 1_024;
+const SLOTS: u32 = 131_072;
 
 /// A player, whether it reads or stores, and how many of its acts answered something else than they were to.
 #[derive(Drop)]
@@ -98,8 +97,8 @@ fn prepare(domain: &EpochDomain<Objects>, writer: &mut Player, reader: &mut Play
     wrong
 }
 
-/// The writer stores a thousand objects, which weigh 100 and more, and flushes after each store: since the region began
-/// at epoch 0, the epoch comes to 1 and stays there, and nothing is paid.
+/// The writer stores a hundred thousand objects, which weigh 100 and more, and flushes after each store: since the
+/// region began at epoch 0, the epoch comes to 1 and stays there, and nothing is paid.
 fn write_turns(domain: &EpochDomain<Objects>, player: &mut Player) -> u32
     requires { Plays domain.now player.old.seat player.old.strongs.items player.old.seen.items
         player.old.inside }
@@ -213,15 +212,15 @@ fn take_part(domain: &EpochDomain<Objects>, parts: &mut Vec<Part>) -> Option<Par
 }
 
 /// Once both are done: all that left a cell waits. When the region is closed two flushes give all of it up: what left
-/// at epoch 0, which weighs 1, and then the other 999, which weigh 2 to 16 and 100 to 1083.
+/// at epoch 0, which weighs 1, and then the other 99,999, which weigh 2 to 16 and 100 to 100,083.
 const AFTER: [Line; 9] = [
-    (First, Act::Waiting, Said::Number(1_000)),
+    (First, Act::Waiting, Said::Number(100_000)),
     (First, Act::Flush, Said::Work(1, 0, 0)),
     (Second, Act::ReadSeen(0), Said::Number(1)),
     (Second, Act::ReadSeen(15), Said::Number(16)),
     (Second, Act::Exit, Said::Done),
     (First, Act::Flush, Said::Work(2, 1, 1)),
-    (First, Act::Flush, Said::Work(3, 999, 582_171)),
+    (First, Act::Flush, Said::Work(3, 99_999, 5_008_348_671)),
     (First, Act::Waiting, Said::Number(0)),
     (Second, Act::Waiting, Said::Number(0)),
 ];

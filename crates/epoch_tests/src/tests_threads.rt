@@ -1,14 +1,12 @@
 //! Four threads that look, read, keep, drop, store and flush on the same cells, after which nothing is left.
 ghost use Rattle.std.specs.Prelude.{◌≡◌, All, IfOk};
 ghost use Rattle.epoch_refs.specs.Walks.{IsFree};
-ghost use Rattle.epoch_tests.specs.Plays.{Plays};
+ghost use Rattle.epoch_players.specs.Plays.{Plays};
 
-use crate::acts::{Act, Said, Spot};
-use crate::draws::Draws;
-use crate::ending::{clear_all, flush_all, give_back, hand_back, is_empty};
-use crate::opening::{Opened, WIDE, open, player_of};
-use crate::player::{Objects, Player};
-use crate::playing::play;
+use epoch_players::{
+    Act, Draws, Objects, Opened, Player, Said, Spot, WIDE, clear_all, flush_all, give_back,
+    hand_back, is_empty, open, play, player_of,
+};
 use epoch_refs::{EpochDomain, EpochSeat, EpochShape, e_close, e_image, e_leave};
 use std::alloc::{AllocError, Global};
 use std::test::Fail;

@@ -1,4 +1,4 @@
-use Rattle.epoch_tests.specs.Plays.{Plays}
+use Rattle.epoch_players.specs.Plays.{Plays}
 use Rattle.epoch_tests.proofs.tests_beside.read_from.Given as goal
 
 abbrev pub invariant-loop-index : goal.invariant-loop-index

@@ -1,4 +1,4 @@
-use Rattle.epoch_tests.specs.Plays.{Plays}
+use Rattle.epoch_players.specs.Plays.{Plays}
 use Rattle.epoch_tests.proofs.tests_beside.write_turns.Given as goal
 
 abbrev pub invariant-loop-turn : goal.invariant-loop-turn

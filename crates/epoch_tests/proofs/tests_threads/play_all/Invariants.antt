@@ -1,4 +1,4 @@
-use Rattle.epoch_tests.specs.Plays.{Plays}
+use Rattle.epoch_players.specs.Plays.{Plays}
 use Rattle.epoch_tests.proofs.tests_threads.play_all.Given as goal
 
 abbrev pub invariant-loop-act : goal.invariant-loop-act

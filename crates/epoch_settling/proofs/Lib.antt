@@ -1,0 +1,5 @@
+pub mod Whole
+pub mod Alone
+pub mod Resting
+pub mod Paying
+pub mod Staying

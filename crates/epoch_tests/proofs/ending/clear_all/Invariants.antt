@@ -1,6 +1,0 @@
-use Rattle.epoch_tests.specs.Plays.{Plays}
-use Rattle.epoch_tests.proofs.ending.clear_all.Given as goal
-
-abbrev pub invariant-loop-cell : goal.invariant-loop-cell
-invariant-loop-cell l =
-    Plays l.domain l.player.seat l.player.strongs.items l.player.seen.items l.player.inside

@@ -1,7 +1,0 @@
-use Rattle.epoch_tests.proofs.Called.{by_core}
-use Rattle.epoch_tests.proofs.Changing.{kept}
-use Rattle.epoch_tests.proofs.flush_acts.flush.Goals as goal
-
-pub returns-in-Ok-clause-plays : goal.returns-in-Ok-clause-plays
-returns-in-Ok-clause-plays c =
-    kept c.flush.ensures.rest (by_core c.in-Ok.ensures.flushed.core) c.requires

@@ -1,7 +1,0 @@
-use Rattle.epoch_tests.specs.Plays.{Plays}
-use Rattle.epoch_tests.proofs.playing.run.Given as goal
-
-abbrev pub invariant-loop-index : goal.invariant-loop-index
-invariant-loop-index l =
-    Plays l.domain l.first.seat l.first.strongs.items l.first.seen.items l.first.inside
-    × Plays l.domain l.second.seat l.second.strongs.items l.second.seen.items l.second.inside
