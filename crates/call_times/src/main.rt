@@ -5,6 +5,7 @@
 //! Thread i, from 1 on, has seat 2i of 2(THREADS + 1), so that no two threads write one cache line: two seats'
 //! announcement words share one, and the last seat's the first cells'. With `--neighbours` before THREADS it has seat
 //! i of as many, and all else is the same, so that it shows what neighbouring seats cost.
+//! Where readers open regions thread i has seat i of THREADS + 1 in both cases, since there no seats' words share one.
 //!
 //! It is proved that each call is one that its seat may make, and nothing is proved of times.
 //!
@@ -22,13 +23,16 @@ mod fault;
 mod interning;
 mod jobs;
 mod queueing;
+mod regions;
 mod request;
 
 use crate::clock::{Tenths, time};
 use crate::fault::Fault;
 use crate::interning::time_interns;
 use crate::queueing::time_queue;
+use crate::regions::time_regions;
 use crate::request::{Request, asked};
+use region_turns::REGION_OPERATIONS;
 use std::alloc::Global;
 use std::env;
 use std::io::Print;
@@ -62,7 +66,12 @@ fn time_all<R: Print + Clock + Threads + Wait + Sync>(
     let each = time_queue(rt, alloc, placing, threads)?;
     print_line(rt, "queue", threads, each)?;
     let each = time_interns(rt, alloc, placing, threads)?;
-    print_line(rt, "intern", threads, each)
+    print_line(rt, "intern", threads, each)?;
+    for operation in REGION_OPERATIONS {
+        let each = time_regions(rt, alloc, operation, threads)?;
+        print_line(rt, operation.name(), threads, each)?;
+    }
+    Ok(())
 }
 
 /// Prints the line of an operation.

@@ -1,0 +1,4 @@
+pub mod RegionCalls
+pub mod StoreEvents
+pub mod Trails
+pub mod Visiting
