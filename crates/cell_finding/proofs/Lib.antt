@@ -1,0 +1,12 @@
+pub mod Compared
+pub mod Looks
+pub mod Past
+pub mod Shown
+pub mod Sighted
+pub mod Along
+pub mod Behind
+pub mod Noted
+pub mod Matching
+pub mod Walking
+pub mod Soughts
+pub mod Later

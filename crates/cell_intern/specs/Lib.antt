@@ -1,0 +1,9 @@
+-- What callers cite of the crates below.
+pub use Rattle.cell_making.specs.cell_calls as cell_calls
+pub use Rattle.cell_finding.specs as cell_finding
+pub use Rattle.cell_making.specs as cell_making
+pub use Rattle.cell_making.specs.epoch_refs as epoch_refs
+-- Its own.
+pub mod Refusals
+pub mod Interning
+pub mod Placing

@@ -1,0 +1,12 @@
+pub mod Kept
+pub mod Events
+pub mod Exchanged
+pub mod Slots
+pub mod Notes
+pub mod Owned
+pub mod Given
+pub mod Linked
+pub mod Before
+pub mod Chained
+pub mod Bound
+pub mod Heads
