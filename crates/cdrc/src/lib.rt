@@ -1,9 +1,9 @@
 //! The face of the library: all that a program over a domain of counted objects lists and names.
 //!
 //! Here stand, layer by layer, the domain and its seats; payloads and deleters; handles and the calls that count and
-//! give up references; slots; strong places and snapshots; weak places and weak snapshots; the audit; a life of a domain,
-//! from its opening to its closing; and the protocols and deeds that a client gives to a domain, with `NoLaw` and
-//! `AnyStep` for one that has no law of its own.
+//! give up references; slots; strong places and snapshots; weak places and weak snapshots; the audit; a life of a
+//! domain, from its opening to its closing; and the protocols and deeds that a client gives to a domain, with `NoLaw`
+//! and `AnyStep` for one that has no law of its own.
 //! `queues` and `directory` have the two structures, `parts` the calls of one of several laws that share a domain.
 //! Each name is that of the crate which has it, with its contract, and nothing is proved here. The definitions that
 //! their contracts cite are passed on too: `Rattle.cdrc.specs.NAME` are those of the crate NAME.

@@ -73,7 +73,7 @@ abbrev pub drawn_texts : Bulk → List (List ℕ)
 drawn_texts drawn = text_of_draws drawn.draws ∷ text_of_draws (next_draws drawn.draws) ∷ []
 
 abbrev pub drawn_plan : Bulk → Plan
-drawn_plan drawn = record { lanes = drawn.lanes; rounds = 1; slots = None; form = Linked }
+drawn_plan drawn = record { lanes = drawn.lanes; rounds = 1; slots = None; first = None; form = Linked }
 
 -- the contents of the files are within the limits of the job
 abbrev pub IsWithinLimits : Job → List (List ℕ) → Type 0

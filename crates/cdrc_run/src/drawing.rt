@@ -74,6 +74,7 @@ pub(crate) fn count_drawn<R: Threads + Wait + Sync, G: Gate + Sync>(
         lanes: drawn.lanes,
         rounds: 1,
         slots: None,
+        first: None,
         form: Form::Linked,
     };
     let WordsDone {

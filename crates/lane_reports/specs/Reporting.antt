@@ -70,8 +70,8 @@ pub record LeftNothing (v : QueueView) : Type 0 where
   pub shut : v.stand.laid ≡ 4
   pub left : v.stand.left ≡ []
 
--- It is seat 0, alone in the domain for this work. Its queue was of the form that was asked for, and nothing was left in
--- it as it was shut. The seat has nothing, and no slot is Live.
+-- It is seat 0, alone in the domain for this work. Its queue was of the form that was asked for, and nothing was left
+-- in it as it was shut. The seat has nothing, and no slot is Live.
 pub record IsLast (work : Work) (lanes slots : ℕ) (asked : Form) (root : SeatState View)
     : Type 0 where
   pub alone : IsAlone root.view

@@ -4,3 +4,4 @@ pub mod Sizes
 pub mod Refusing
 pub mod Named
 pub mod Deciding
+pub mod Serving

@@ -1,15 +1,8 @@
 -- Sums over files, and the limits.
-use Rattle.std.proofs.Common.{◌≡◌, ℕ, zero, suc, ◌+◌, ◌<◌, ◌≤◌, List, [], ◌∷◌, ◌++◌, Option, Some, None, length, get_or, refl, arith}
+use Rattle.std.proofs.Common.{◌≡◌, ℕ, zero, suc, ◌+◌, ◌≤◌, List, [], ◌∷◌, ◌++◌, length, get_or, refl, arith}
 use Rattle.std.proofs.lemmas.List.Sums.{sum_by-append, sum_by-cons}
 use Rattle.lane_reports.specs.cdrc_text.Fold.{File}
-use Rattle.std.specs.Prelude.{unwrap_or}
 use Rattle.words_work.specs.Limits.{pieces_in_all}
-
--- fewer than are needed come only of a number that is asked for
-pub asks_few : (asked : Option ℕ) (needed : ℕ) → unwrap_or asked needed < needed
-    → (n : ℕ) × (asked ≡ Some n) × (n < needed)
-asks_few (Some n) needed few = (n, refl, few)
-asks_few None needed few = absurd (omega (arith, few))
 
 pub pieces_push : (files : List File) (file : File)
     → pieces_in_all (files ++ file ∷ []) ≡ pieces_in_all files + length file

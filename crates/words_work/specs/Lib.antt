@@ -7,6 +7,7 @@ pub use Rattle.lane_reports.specs.words_law as words_law
 -- Its own.
 pub mod Contents
 pub mod Limits
+pub mod Beginnings
 pub mod Outcomes
 pub mod Reads
 pub mod Cuts

@@ -1,5 +1,6 @@
 -- How contents are to be counted, and within which limits.
-use Rattle.std.specs.Prelude.{ℕ, ◌≡◌, ◌+◌, ◌*◌, ◌<◌, ◌≤◌, ◌⊎◌, Bool, true, false, List, Some, length, map, string_bytes, unwrap_or, IfSome}
+use Rattle.std.specs.Prelude.{ℕ, ◌≡◌, ◌+◌, ◌*◌, ◌<◌, ◌≤◌, ◌⊎◌, Bool, true, false, List, Some, None, length, map, string_bytes, IfSome}
+use Rattle.std.specs.declared.option.Option.{Option}
 use Rattle.std.specs.List.{sum_by}
 use Rattle.lane_reports.specs.plain_state.Limits.{most_slots}
 use Rattle.run_requests.specs.declared.asked.WordsArgs.{WordsArgs}
@@ -21,6 +22,7 @@ plan_of args = record {
   lanes = args.lanes;
   rounds = args.rounds;
   slots = args.slots;
+  first = None;
   form = form_of args.double;
 }
 
@@ -51,9 +53,13 @@ parts_in_all files = sum_by slots_of_words files
 abbrev pub slots_needed : ℕ → List File → ℕ
 slots_needed rounds files = rounds * (pieces_in_all files + parts_in_all files) + 2
 
--- the slots that are asked for, or so many as serve
-abbrev pub slots_for : Plan → List File → ℕ
-slots_for plan files = unwrap_or plan.slots (slots_needed plan.rounds files)
+-- so many slots are opened: those that are asked for; or where none are at most so many
+abbrev pub AreSlots : Option ℕ → ℕ → ℕ → Type 0
+AreSlots None most slots = slots ≤ most
+AreSlots (Some asked) most slots = slots ≡ asked
+
+abbrev pub AreSlotsFor : Plan → List File → ℕ → Type 0
+AreSlotsFor plan files slots = AreSlots plan.slots (slots_needed plan.rounds files) slots
 
 -- a number of slots is asked for, and it is below the one that serves
 abbrev pub AsksTooFewSlots : Plan → List File → Type 0

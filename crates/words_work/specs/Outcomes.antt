@@ -15,7 +15,7 @@ use Rattle.lane_reports.specs.Refusals.{HasSpentAll, IsWhyNothing}
 use Rattle.lane_reports.specs.Reporting.{IsLast}
 use Rattle.lane_reports.specs.declared.counted.CountError.TheVariants as uncounted
 use Rattle.words_work.specs.Contents.{AreContents, IsTooLong, Told}
-use Rattle.words_work.specs.Limits.{AsksTooFewSlots, HasTooMany, IsWithinLimits, most_bytes, most_files, slots_for}
+use Rattle.words_work.specs.Limits.{AreSlotsFor, AsksTooFewSlots, HasTooMany, IsWithinLimits, most_bytes, most_files}
 use Rattle.words_work.specs.declared.plan.Plan.{Plan}
 use Rattle.words_work.specs.declared.outcome.WordsDone.{WordsDone}
 use Rattle.words_work.specs.declared.outcome.WordsRefused.{WordsRefused}
@@ -30,8 +30,8 @@ pub record IsWorkOn (rounds : ℕ) (contents : List (List ℕ)) (work : Work) : 
   pub often : work.rounds ≡ rounds
   pub texts : texts_in work ≡ map pieces_of contents
 
--- The contents were counted: the bytes are their text, and seat 0 and the tallies are those of the work on them. Seat 0
--- counted the holders, and its queue was of the form that was asked for.
+-- The contents were counted: the bytes are their text, and seat 0 and the tallies are those of the work on them, on a
+-- domain of slots as they were asked for. Seat 0 counted the holders, and its queue was of the form that was asked for.
 pub record IsCounted (plan : Plan) (contents : List (List ℕ)) (done : WordsDone) : Type 0 where
   pub within : IsWithinLimits plan.rounds contents
   pub text : IsText contents plan.rounds done.bytes.items
@@ -39,8 +39,9 @@ pub record IsCounted (plan : Plan) (contents : List (List ℕ)) (done : WordsDon
   pub on : IsWorkOn plan.rounds contents work
   pub counts : CountsAll work done.root done.tallies.items
   pub holders : CountsHolders work done.root done.bytes.items
-  pub root :
-      IsLast work plan.lanes (slots_for plan (map pieces_of contents)) plan.form done.root
+  pub slots : ℕ
+  pub opened : AreSlotsFor plan (map pieces_of contents) slots
+  pub root : IsLast work plan.lanes slots plan.form done.root
 
 -- contents of the files with these names were counted
 pub record IsDone (told : Told) (names : List (List ℕ)) (plan : Plan) (done : WordsDone)
@@ -54,8 +55,9 @@ pub record IsSpentOn (plan : Plan) (contents : List (List ℕ)) (seat : SeatStat
     : Type 0 where
   pub work : Work
   pub on : IsWorkOn plan.rounds contents work
-  pub spent :
-      HasSpentAll work plan.lanes (slots_for plan (map pieces_of contents)) plan.form seat
+  pub slots : ℕ
+  pub opened : AreSlotsFor plan (map pieces_of contents) slots
+  pub spent : HasSpentAll work plan.lanes slots plan.form seat
 
 module _ (fits : List ℕ → Type 0) where
   -- fewer slots were asked for than serve, and this seat of a domain for the work on the contents found each one taken
@@ -63,9 +65,7 @@ module _ (fits : List ℕ → Type 0) where
     pub few : AsksTooFewSlots plan (map pieces_of contents)
     pub work : Work
     pub on : IsWorkOn plan.rounds contents work
-    pub full :
-        IsWhyNothing fits work plan.lanes (slots_for plan (map pieces_of contents)) plan.form
-        (uncounted.Full seat)
+    pub full : IsWhyNothing fits work plan.lanes few.0 plan.form (uncounted.Full seat)
 
   -- why contents within the limit of bytes weren't counted
   abbrev pub IsWhyUncounted : Plan → List (List ℕ) → WordsRefused → Type 0

@@ -13,6 +13,7 @@
 //! ```
 #![tactic(auto)]
 
+mod beginning;
 mod cutting;
 mod outcome;
 mod plan;

@@ -8,8 +8,12 @@ pub struct Plan {
     pub lanes: u32,
     /// 1 to 1,000.
     pub rounds: u64,
-    /// 1 to 4,194,304. Where there are none, there is a slot for each object that is made.
+    /// 1 to 4,194,304. Where there are none, there are as many as the words need, at most one for each object that is
+    /// made.
     pub slots: Option<u32>,
+    /// With how many slots a count begins where none are asked for, raised to 1 and lowered to as many as always serve;
+    /// with a guess by the words where this is none.
+    pub first: Option<u32>,
     /// The queue's.
     pub form: Form,
 }

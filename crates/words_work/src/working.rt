@@ -6,16 +6,17 @@ ghost use Rattle.lane_reports.specs.lane_files.Work.{IsWork};
 ghost use Rattle.lane_reports.specs.lane_domain.Sizes as domain;
 ghost use Rattle.words_work.specs.Contents.{AreTold, bytes_in};
 ghost use Rattle.words_work.specs.Cuts.{IsWhyUncutOf};
-ghost use Rattle.words_work.specs.Limits.{IsPlan, IsWithinLimits, PassesLimit, most_bytes, most_files, names_of, plan_of, slots_for};
+ghost use Rattle.words_work.specs.Limits.{IsPlan, IsWithinLimits, PassesLimit, most_bytes, most_files, names_of, plan_of};
 ghost use Rattle.words_work.specs.Outcomes.{IsCounted, IsDone, IsDoneOrStopped, IsTooLargeOrNoMemory, IsWhyNotDone, IsWhyUncounted, IsWorkOn, bytes_of};
 
+use crate::beginning::count_work;
 use crate::cutting::cut_files;
 use crate::outcome::{WordsDone, WordsRefused};
 use crate::plan::Plan;
 use crate::reading::read_files;
 use lane_reports::{
     CountError, Counted, Deleter, Files, Form, Gate, NodeKind, PairKind, PayloadKind, RecordKind,
-    Work, count_pieces, count_slots, count_words, is_within_limits,
+    Work, is_within_limits,
 };
 use run_requests::WordsArgs;
 use std::alloc::Global;
@@ -33,6 +34,7 @@ fn plan_of(args: &WordsArgs) -> Plan
         lanes: args.lanes,
         rounds: args.rounds,
         slots: args.slots,
+        first: None,
         form: if args.double {
             Form::Double
         } else {
@@ -61,25 +63,13 @@ fn work_on(alloc: Global, rounds: u64, contents: Vec<Vec<u8>>) -> Result<Work, W
     Ok(work)
 }
 
-/// The slots that are asked for, or one for each object that is made.
-fn slots_for(plan: Plan, work: &Work) -> u32
-    requires work { IsWork work.now }
-    requires within { domain.IsWithinLimits work.now }
-    requires rounds { work.now.rounds ≡ plan.rounds }
-    ensures { result ≡ slots_for plan (domain.texts_in work.now) }
-{
-    match plan.slots {
-        Some(slots) => slots,
-        None => (work.rounds * (count_pieces(work) + count_slots(work)) + 2) as u32,
-    }
-}
-
 /// Counts the words of 1 to 4,096 contents of at most 67,108,864 bytes together, as the plan says.
 ///
 /// TooLarge comes exactly where they have more than 1,000,000 pieces in all rounds, or where more than 4,194,304 slots
 /// would be needed, for each piece one and its record's, and two more. Full and Spent come with the seat that was
-/// refused while the lanes ran. It may wait for other threads. It takes the steps of `cut`, for each content, and of
-/// `count_words`.
+/// refused while the lanes ran, and Full only where a number of slots is asked for: without one the count begins with
+/// as many as these words are likely to need, and anew with as many as serve where they weren't enough. It may wait for
+/// other threads. It takes the steps of `cut`, for each content, and of `count_words`, twice where it began anew.
 pub fn count_contents<R: Threads + Wait + Sync, G: Gate + Sync, D: Fn(&[u64; 16]) -> u64 + Sync>(
     rt: &R,
     alloc: Global,
@@ -99,8 +89,7 @@ pub fn count_contents<R: Threads + Wait + Sync, G: Gate + Sync, D: Fn(&[u64; 16]
         ⟦<PairKind<NodeKind, RecordKind> as PayloadKind>⟧.fits plan (bytes_of contents.items)) }
 {
     let work = work_on(alloc, plan.rounds, contents)?;
-    let slots = slots_for(plan, &work);
-    match count_words(rt, alloc, &work, plan.lanes, slots, plan.form, gate, weigh) {
+    match count_work(rt, alloc, plan, &work, gate, weigh) {
         Ok(
             Counted {
                 text,

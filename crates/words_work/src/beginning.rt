@@ -1,0 +1,135 @@
+//! With how many slots a count begins, and that it begins anew where these are too few.
+ghost use Rattle.std.specs.Prelude.{◌≡◌, ◌≤◌, ◌^◌, IfErr, IfOk, None, length};
+ghost use Rattle.lane_reports.specs.deleter.Weighing.{Weighs};
+ghost use Rattle.lane_reports.specs.plain_state.Limits.{most_slots};
+ghost use Rattle.lane_reports.specs.lane_files.FilePieces.{HasPieces, pieces_in};
+ghost use Rattle.lane_reports.specs.lane_files.Work.{IsWork};
+ghost use Rattle.lane_reports.specs.lane_domain.Sizes.{IsWithinLimits, most_lanes};
+ghost use Rattle.words_work.specs.Beginnings.{IsCountOf, IsWhyStopped, most_of};
+ghost use Rattle.words_work.specs.Limits.{IsPlan};
+
+use crate::plan::Plan;
+use lane_reports::{
+    CountError, Counted, Deleter, FileText, Gate, NodeKind, OutOfMemory, PairKind, PayloadKind,
+    RecordKind, Work, count_pieces, count_slots, count_words,
+};
+use std::alloc::{AllocError, Global};
+use std::collections::HashSet;
+use std::sync::Wait;
+use std::thread::Threads;
+
+/// How many slots lanes have under way beside those that grow with the lanes: while one lane waits for a processor with
+/// a node under its announcement, the others pop on, and what they pop is freed behind that node.
+const UNDER_WAY: u64 = 16_384;
+
+/// So many slots serve, whatever the lanes do: one for each object that is made.
+fn slots_that_serve(work: &Work) -> u32
+    requires work { IsWork work.now }
+    requires within { IsWithinLimits work.now }
+    ensures { result ≡ most_of work.now }
+{
+    (work.rounds * (count_pieces(work) + count_slots(work)) + 2) as u32
+}
+
+/// The words of a file that aren't in the set yet join it. How many slots their records take. A step for each piece.
+fn add_words<'a>(words: &mut HashSet<&'a [u8]>, file: &'a FileText) -> Result<u64, AllocError>
+    requires lies { HasPieces file.now }
+{
+    let mut slots: u64 = 0;
+    for number in 0..file.pieces.len() {
+        let word = file.piece(number);
+        if words.insert(word)? {
+            slots = slots.saturating_add((word.len() as u64).div_ceil(120));
+        }
+    }
+    Ok(slots)
+}
+
+/// How many slots the work is likely to need on so many lanes: those of its distinct words' records, and what lanes
+/// can have under way, as nodes that wait or are not yet freed, and records of words that two lanes make at once. It
+/// needn't be enough. A step for each piece.
+fn guess(alloc: Global, work: &Work, lanes: u32) -> Result<u64, OutOfMemory>
+    requires work { IsWork work.now }
+    requires lanes { lanes ≤ most_lanes }
+{
+    let seats = u64::from(lanes) + 1;
+    let mut slots = UNDER_WAY + 64 * seats * seats;
+    let mut words = HashSet::new(alloc);
+    for ticket in 0..work.files.len() as u64 {
+        slots = slots.saturating_add(add_words(&mut words, work.file(ticket))?);
+    }
+    Ok(slots)
+}
+
+/// With so many slots the work is begun where none are asked for. Records of earlier rounds keep their slots, so with
+/// more than one round it is as many as always serve.
+fn slots_to_begin(alloc: Global, plan: Plan, work: &Work) -> Result<u32, OutOfMemory>
+    requires plan { IsPlan plan }
+    requires work { IsWork work.now × IsWithinLimits work.now }
+    ensures { IfOk result (λ slots. (1 ≤ slots) × (slots ≤ most_of work.now)) }
+{
+    let most = slots_that_serve(work);
+    let slots = match plan.first {
+        Some(first) => u64::from(first),
+        None if work.rounds > 1 => u64::from(most),
+        None => guess(alloc, work, plan.lanes)?,
+    };
+    Ok(slots.min(u64::from(most)).max(1) as u32)
+}
+
+/// Counts the work on a domain of so many slots; and anew, on one that has as many as always serve, where a seat
+/// found each slot taken. So it is never refused as full. What the first count told is forgotten: its seats are gone
+/// with their domain, and the contents are those that were given. It takes the steps of `count_words`, twice where it
+/// began anew.
+fn count_from<R: Threads + Wait + Sync, G: Gate + Sync, D: Fn(&[u64; 16]) -> u64 + Sync>(
+    rt: &R,
+    alloc: Global,
+    plan: Plan,
+    work: &Work,
+    slots: u32,
+    gate: &G,
+    weigh: &Deleter<PairKind<NodeKind, RecordKind>, D>,
+) -> Result<Counted, CountError>
+    requires plan { IsPlan plan }
+    requires work { IsWork work.now × IsWithinLimits work.now }
+    requires slots { (1 ≤ slots) × (slots ≤ most_of work.now) }
+    requires weighs { Weighs ⟦<PairKind<NodeKind, RecordKind> as PayloadKind>⟧.fits
+        ⟦<PairKind<NodeKind, RecordKind> as PayloadKind>⟧.weight D.Fn weigh.now }
+    ensures done { IfOk result (IsCountOf work.now plan.lanes plan.form None) }
+    ensures why { IfErr result (IsWhyStopped ⟦<PairKind<NodeKind, RecordKind> as PayloadKind>⟧.fits
+        work.now plan.lanes plan.form None) }
+{
+    match count_words(rt, alloc, work, plan.lanes, slots, plan.form, gate, weigh) {
+        Err(CountError::Full(_seat)) => {
+            let most = slots_that_serve(work);
+            count_words(rt, alloc, work, plan.lanes, most, plan.form, gate, weigh)
+        }
+        counted => counted,
+    }
+}
+
+/// Counts the work on a domain of the slots that are asked for; where none are, of as many as it needs.
+pub(crate) fn count_work<R: Threads + Wait + Sync, G: Gate + Sync, D: Fn(&[u64; 16]) -> u64 + Sync>(
+    rt: &R,
+    alloc: Global,
+    plan: Plan,
+    work: &Work,
+    gate: &G,
+    weigh: &Deleter<PairKind<NodeKind, RecordKind>, D>,
+) -> Result<Counted, CountError>
+    requires plan { IsPlan plan }
+    requires work { IsWork work.now × IsWithinLimits work.now }
+    requires weighs { Weighs ⟦<PairKind<NodeKind, RecordKind> as PayloadKind>⟧.fits
+        ⟦<PairKind<NodeKind, RecordKind> as PayloadKind>⟧.weight D.Fn weigh.now }
+    ensures done { IfOk result (IsCountOf work.now plan.lanes plan.form plan.slots) }
+    ensures why { IfErr result (IsWhyStopped ⟦<PairKind<NodeKind, RecordKind> as PayloadKind>⟧.fits
+        work.now plan.lanes plan.form plan.slots) }
+{
+    match plan.slots {
+        Some(slots) => { count_words(rt, alloc, work, plan.lanes, slots, plan.form, gate, weigh) }
+        None => {
+            let slots = slots_to_begin(alloc, plan, work)?;
+            count_from(rt, alloc, plan, work, slots, gate, weigh)
+        }
+    }
+}
