@@ -1,6 +1,7 @@
 -- The deed of a bind keeps the law.
 use Rattle.std.proofs.Common.{◌≡◌, ◌≢◌, inl, inr, ⊎_elim, ℕ, zero, suc, ◌+◌, ◌-◌, ◌<◌, Bool, true, false, List, ◌∷◌, length, set, refl, ap, sym, ◌∙◌, subst, arith}
-use Rattle.std.specs.Prelude.{if◌then◌else◌, ◌==◌, Option, Some, None}
+use Rattle.std.specs.Prelude.{if◌then◌else◌, ◌==◌, Option, Some, None, sum}
+use Rattle.std.proofs.lemmas.Bool.{cases_eq}
 use Rattle.std.proofs.lemmas.Bool.Decides.{nat_tests}
 use Rattle.std.proofs.lemmas.List.{get_or-set_same, get_or-set_other}
 use Rattle.plain_protocol.specs.plain_state.declared.act.EventPlace.TheVariants.{Cell}
@@ -22,16 +23,18 @@ use Rattle.directory_law.specs.Steps.{id, slot_of}
 use Rattle.directory_law.proofs.Kit.{none_some}
 use Rattle.directory_law.proofs.Looks.{word_slot}
 use Rattle.directory_law.proofs.Moves.{on_inside}
+use Rattle.directory_law.proofs.Notes.{each_in}
 use Rattle.directory_law.proofs.Owns.{has_owned, life_at, owned_live}
 use Rattle.queue_law.proofs.Left.{LeftSame, does_left}
-use Rattle.cell_law.specs.Views.{Sight, View, gone, view_at, makers, IsWord}
+use Rattle.cell_law.specs.Views.{Sight, View, gone, view_at, makers, IsOpen, IsWord, MayBind, Unseen, sight}
 use Rattle.cell_law.specs.Cells.{cell, no_cells, IsRecord, NoRecord}
-use Rattle.cell_law.specs.Law.{Saw, CellLaw}
-use Rattle.cell_law.specs.Making.{BindReady, BindTells, bind_next, binds, cell_of, other_notes, sees, sight}
+use Rattle.cell_law.specs.Law.{Saw, SawBound, CellLaw}
+use Rattle.cell_law.specs.Making.{BindReady, BindTells, bind_next, binds, cell_of, other_notes, sees}
 use Rattle.cell_law.proofs.Binding.{moved, law_bound, new_text, record_new, stays}
 use Rattle.cell_law.proofs.Kit.{maker_at, makers_set}
-use Rattle.cell_law.proofs.Moves.{learnt_on, step_set, law_set}
+use Rattle.cell_law.proofs.Moves.{learns_alike, learnt_on, own_on, step_set, law_set}
 use Rattle.cell_law.proofs.Records.{law_same_notes}
+use Rattle.cell_law.proofs.Shares.{alone_bound, share_at}
 use Rattle.cell_law.proofs.Stands.{open_for}
 use Rattle.cell_law.proofs.Walks.{Passed, walked_passed}
 
@@ -50,10 +53,11 @@ module _ (z : Area) (p : Plain) (views : List View) (n : ℕ) (here : n < length
   law_saw =
       let law = meets.law in
       let step = step_set z p p views n w here meets.lawful law (λ c h. refl) (λ s live. refl)
-      (λ s fixed. refl) refl refl in
+      (λ s fixed. refl) (learns_alike v v.noted (e ∷ v.seen) v.found) in
       let l = learnt_on z p p views (set views n w) meets.lawful law step v (law.learnt n) in
       law_set z p p views n w here meets.lawful law (λ c h. refl) (λ s live. refl)
-      (λ s fixed. refl) refl refl (record { seats = refl; left = λ m. refl }) there is_here
+      (λ s fixed. refl) (learns_alike v v.noted (e ∷ v.seen) v.found)
+      (record { seats = refl; left = λ m. refl }) there is_here
       (subst (DirectoryLaw no_cells p)
       (sym (makers_set views n w ∙ ap (set (makers views) n) (sym (maker_at views n))))
       (law_same_notes no_cells p (makers views) n law.records))
@@ -61,6 +65,7 @@ module _ (z : Area) (p : Plain) (views : List View) (n : ℕ) (here : n < length
         texts = l.texts;
         seen = ((inside, λ o. saw.1 (step.opened o)), l.seen);
         found = l.found;
+        own = own_on v w v.bound (λ x i. inr i) l.own;
       })
 
 found_some : (found : ℕ) (place : Option SlotId) → found ≡ word_of place → place ≢ None
@@ -91,13 +96,34 @@ moved_is : (p q : Plain) (n i : ℕ) (s : SlotId) (seat : PlainSeat) (place : Op
 moved_is p q n i s seat None null is = is
 moved_is p q n i s seat (Some x) null is = absurd (none_some x (sym null))
 
+-- where the view has seen nothing in a cell that holds a head, not all was granted to its seat
+another : (z : Area) (p : Plain) (views : List View) (n c : ℕ) (s : SlotId) → n < length views
+    → CellLaw z p views → IsOpen views → c < z.cells → cell z p c ≡ Some s
+    → Unseen (view_at views n) c → (view_at views n).grant < sum z.interns
+another z p views n c s here law opened inside is unseen =
+    ⊎_elim
+    (λ (alone : (view_at views n).grant ≡ sum z.interns).
+    let v : View = view_at views n in
+    let o = law.cells c s inside is in
+    let e : Rope = rope s (slot_at p s).life o.text in
+    let own = alone_bound z p views law n here alone s (slot_at p s).life o.text o.bound in
+    let at = each_in (SawBound v) e v.bound own (law.learnt n).own in
+    let x : Sight = sight at.0 s in
+    let saw = each_in (Saw z p views) x v.seen at.1 (law.learnt n).seen in
+    absurd (unseen x at.1 (λ f. cc)
+    (law.single at.0 c s saw.0 inside (saw.1 opened).0 is)))
+    (λ (ne : (view_at views n).grant ≢ sum z.interns).
+    let a = share_at views n here in
+    let b = law.room in omega arith)
+    (cases_eq (view_at views n).grant (sum z.interns))
+
 -- a lost bind: the cell shows another head
-lost : (z : Area) (p : Plain) (views : List View) (n c found : ℕ) → n < length views
+lost : (z : Area) (p : Plain) (views : List View) (n c found : ℕ) → n < length views → IsOpen views
     → Meets (CellLaw z) p views → n < length p.seats → (seat_at p n).left ≡ false → c < z.cells
     → cell z p c ≡ slot_of found → cell z p c ≢ None
     → Told z p p views n (sees c found (view_at views n))
-lost z p views n c zero here meets there is_here inside is some = absurd (some is)
-lost z p views n c (suc k) here meets there is_here inside is some = (
+lost z p views n c zero here opened meets there is_here inside is some = absurd (some is)
+lost z p views n c (suc k) here opened meets there is_here inside is some = (
   law_saw z p views n here meets there is_here (sight c (id k)) inside (inside, λ o. (is, tt)),
   (
     λ d r h held. held,
@@ -108,6 +134,7 @@ lost z p views n c (suc k) here meets there is_here inside is some = (
       held = is;
       next = refl;
       same = refl;
+      other = another z p views n c (id k) here meets.law opened inside is;
     }),
   ),
 )
@@ -119,13 +146,13 @@ won : (z : Area) (p : Plain) (ss : List PlainSeat) (s : SlotId) (m : ℕ) (text 
     → (seat_at p n).left ≡ false
     → (view_at views n).noted ≡ rope s (slot_at p s).life text ∷ others
     → (view_at views n).cleared ≡ false → 0 < z.cells → IsWord text → Passed z p text m
-    → stage_at p s ≡ Live → z.first + on z text m < length p.cells
+    → stage_at p s ≡ Live → MayBind (view_at views n) → z.first + on z text m < length p.cells
     → cell z p (on z text m) ≡ None
     → LeftSame p (moved p ss (set p.cells (z.first + on z text m) (Some s)))
     → Told z p (moved p ss (set p.cells (z.first + on z text m) (Some s))) views n
-    (binds (view_at views n))
+    (binds (on z text m) (view_at views n))
 won z p ss s m text views n others here meets there is_here noted uncleared some_cells is_word passed
-    live range null same =
+    live may range null same =
     let law = meets.law in
     let v : View = view_at views n in
     let c : ℕ = on z text m in
@@ -139,22 +166,27 @@ won z p ss s m text views n others here meets there is_here noted uncleared some
     λ d ne. get_or-set_other p.cells (z.first + c) (z.first + d) (Some s) None
     (λ f. ne (omega arith)) in
     let kept = law_bound z p ss cs s m text views n here others noted meets.lawful law opened
-    some_cells at elsewhere null passed is_word live same there is_here in
+    some_cells at elsewhere null passed is_word live may same there is_here in
     let new = new_text z p ss cs s m text views n here others noted meets.lawful law opened some_cells
-    at elsewhere null passed is_word live in
+    at elsewhere null passed is_word live may in
     let is = record_new z p ss cs s m text views n here others noted meets.lawful law opened
-    some_cells at elsewhere null passed is_word live in
-    let next : record v { noted = others; bound = e ∷ v.bound } ≡ binds v =
+    some_cells at elsewhere null passed is_word live may in
+    let next : record v { noted = others; bound = e ∷ v.bound; seen = sight c s ∷ v.seen }
+    ≡ binds c v =
     ap (λ (es : List Rope). record v {
       noted = other_notes es;
       bound = first_noted es ∷ v.bound;
+      seen = sight c (first_noted es).slot ∷ v.seen;
     }) (sym noted) in
     let first : e ≡ first_noted v.noted = ap first_noted (sym noted) in (
       subst (λ (w : View). CellLaw z q (set views n w)) next kept,
       (
         stays z p ss cs s m text views n here others noted meets.lawful law opened some_cells at
-            elsewhere null passed is_word live,
+            elsewhere null passed is_word live may,
         inl (record {
+          at = c;
+          inside = on_inside z text m some_cells;
+          held = at ∙ ap (λ (x : Rope). Some x.slot) first;
           next = refl;
           new = subst (λ (x : Rope). NoRecord z p x.text) first new;
           is = subst (λ (x : Rope). IsRecord z q x.text x.slot) first is;
@@ -190,15 +222,17 @@ bind_keeps z p q views n step found meets here ready does =
     let after : Plain = moved p ss (set p.cells (z.first + c) (Some s)) in
     let at = moved_is p q n (z.first + c) s yes.1.0 (cell z p c) yes.0 yes.1.2 in
     let told = won z p ss s m text views n ready.others here meets d.0.0 d.0.1 noted ready.is_open
-    ready.some_cells ready.is_word passed live d.1.0 yes.0 (subst (LeftSame p) at same) in
-    chosen z p q views n found (binds v) (sees (cell_of step - z.first) found v) true
-    (found_none found (cell z p c) d.1.1 yes.0)
-    (subst (λ (x : Plain). Told z p x views n (binds v)) (sym at) told))
+    ready.some_cells ready.is_word passed live ready.granted d.1.0 yes.0
+    (subst (LeftSame p) at same) in
+    chosen z p q views n found (binds (cell_of step - z.first) v)
+    (sees (cell_of step - z.first) found v) true (found_none found (cell z p c) d.1.1 yes.0)
+    (subst (λ (i : ℕ). Told z p q views n (binds i v)) (sym index)
+    (subst (λ (x : Plain). Told z p x views n (binds c v)) (sym at) told)))
     (λ not.
     let is = word_slot found (cell z p c) d.1.1 in
-    let told = lost z p views n c found here meets d.0.0 d.0.1 inside is not.0 in
-    chosen z p q views n found (binds v) (sees (cell_of step - z.first) found v) false
-    (found_some found (cell z p c) d.1.1 not.0)
+    let told = lost z p views n c found here opened meets d.0.0 d.0.1 inside is not.0 in
+    chosen z p q views n found (binds (cell_of step - z.first) v)
+    (sees (cell_of step - z.first) found v) false (found_some found (cell z p c) d.1.1 not.0)
     (subst (λ (i : ℕ). Told z p q views n (sees i found v)) (sym index)
     (subst (λ (x : Plain). Told z p x views n (sees c found v)) (sym not.1) told)))
     d.1.2

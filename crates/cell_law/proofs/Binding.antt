@@ -23,14 +23,15 @@ use Rattle.directory_law.proofs.Notes.{append_of, cons_of, each_append}
 use Rattle.directory_law.proofs.Moves.{on_inside}
 use Rattle.directory_law.proofs.Quiet.{Quiet, same_quiet, law_quiet}
 use Rattle.queue_law.proofs.Left.{LeftSame}
-use Rattle.cell_law.specs.Views.{View, view_at, bound_in, BoundIn, IsOpen, makers, IsWord}
+use Rattle.cell_law.specs.Views.{View, view_at, bound_in, BoundIn, IsOpen, makers, IsWord, MayBind, sight}
 use Rattle.cell_law.specs.Cells.{cell, no_cells, IsRecord, NoRecord, SetCell}
 use Rattle.cell_law.specs.Law.{Learnt, CellLaw}
 use Rattle.cell_law.specs.Making.{Stays}
 use Rattle.cell_law.proofs.Gone.{gone_set}
 use Rattle.cell_law.proofs.Kit.{at_view, view_here, maker_at, makers_set, makers_long, bound_more, bound_back, cleared_set, each_left, each_right}
-use Rattle.cell_law.proofs.Moves.{Step, learnt_on, cell_on, stands_on}
+use Rattle.cell_law.proofs.Moves.{Step, learnt_on, own_on, cell_on, stands_on}
 use Rattle.cell_law.proofs.Records.{law_reordered}
+use Rattle.cell_law.proofs.Shares.{shares_set}
 use Rattle.cell_law.proofs.Stands.{noted_unbound}
 use Rattle.cell_law.proofs.Walks.{Passed, null_tells, listed_record}
 
@@ -56,7 +57,7 @@ module _ (z : Area) (p : Plain) (ss : List PlainSeat) (cs : List (Option SlotId)
     (at : cell z (moved p ss cs) (on z text m) ≡ Some s)
     (elsewhere : (d : ℕ) → d ≢ on z text m → cell z (moved p ss cs) d ≡ cell z p d)
     (null : cell z p (on z text m) ≡ None) (passed : Passed z p text m) (is_word : IsWord text)
-    (live : stage_at p s ≡ Live) where
+    (live : stage_at p s ≡ Live) (may : MayBind (view_at views n)) where
   abbrev v : View
   v = view_at views n
 
@@ -67,6 +68,7 @@ module _ (z : Area) (p : Plain) (ss : List PlainSeat) (cs : List (Option SlotId)
   w = record (view_at views n) {
     noted = others;
     bound = rope s (slot_at p s).life text ∷ (view_at views n).bound;
+    seen = sight (on z text m) s ∷ (view_at views n).seen;
   }
 
   abbrev q : Plain
@@ -230,7 +232,7 @@ module _ (z : Area) (p : Plain) (ss : List PlainSeat) (cs : List (Option SlotId)
       opened_after = cleared_set views n w here refl ∙ opened
 
   pub new_text : NoRecord z p text
-  new_text = null_tells z p views lawful law opened text m passed null
+  new_text = null_tells z p views lawful law opened text m passed (inl null)
 
   -- the text was listed nowhere
   new_apart : (x : SlotId) (l : ℕ) (t : Text) → t ≡ text → BoundIn views x l t → ⊥
@@ -259,8 +261,8 @@ module _ (z : Area) (p : Plain) (ss : List PlainSeat) (cs : List (Option SlotId)
 
   pub law_bound : LeftSame p q → n < length p.seats → (seat_at p n).left ≡ false → CellLaw z q after
   law_bound same there is_here =
-      let on = learnt_on z p q views after lawful law step in
-      let l = on v (law.learnt n) in
+      let goes_on = learnt_on z p q views after lawful law step in
+      let l = goes_on v (law.learnt n) in
       record {
         records = records;
         cells = cell_bind;
@@ -268,8 +270,17 @@ module _ (z : Area) (p : Plain) (ss : List PlainSeat) (cs : List (Option SlotId)
         stands = λ o x l t k. stands_bind x l t k;
         apart = apart_bind;
         learnt = at_view views n w (Learnt z q after) here
-            (record { texts = (is_word, l.texts); seen = l.seen; found = l.found })
-            (λ m ne. on (view_at views m) (law.learnt m));
+            (record {
+              texts = (is_word, l.texts);
+              seen = ((inside, λ o. (at, tt)), l.seen);
+              found = l.found;
+              own = ((on z text m, inl refl), own_on v w v.bound (λ x i. inr i) l.own);
+            })
+            (λ m ne. goes_on (view_at views m) (law.learnt m));
+        granted = at_view views n w (λ (x : View). length x.bound ≤ x.grant) here
+            (let a : length v.bound < v.grant = may in omega arith)
+            (λ m ne. law.granted m);
+        room = let a = shares_set views n w here refl in let b = law.room in omega arith;
         left = gone_set p q n views w same there is_here law.left;
         alone = λ is m ne. absurd (false≢true
             (sym opened ∙ (sym (cleared_set views n w here refl) ∙ is)));

@@ -28,6 +28,7 @@ use Rattle.cell_law.proofs.Binding.{moved, moved_quiet}
 use Rattle.cell_law.proofs.Gone.{gone_set, left_on}
 use Rattle.cell_law.proofs.Kit.{at_view, view_here, maker_at, makers_set, bound_more, bound_back}
 use Rattle.cell_law.proofs.Records.{law_same_notes}
+use Rattle.cell_law.proofs.Shares.{shares_set}
 
 -- who has the whole state is seat 0, and all others have left
 whole_alone : (p : Plain) (n : ℕ) → (own_part p n).whole ≢ None
@@ -108,12 +109,13 @@ module _ (z : Area) (p q : Plain) (ss : List PlainSeat) (at : ℕ) (views : List
     found = each_map (λ (e : Rope). BoundIn views e.slot e.life e.text)
         (λ (e : Rope). BoundIn after e.slot e.life e.text)
         (λ e h. more e.slot e.life e.text h) x.found l.found;
+    own = l.own;
   }
 
   learnt_root : Learnt z q after w
   learnt_root =
       let l = learnt_shut v (meets.law.learnt 0) in
-      record { texts = l.texts; seen = l.seen; found = l.found }
+      record { texts = l.texts; seen = l.seen; found = l.found; own = l.own }
 
   pub law_cleared : ((m : ℕ) → HasLeft p m → HasLeft q m) → ((m : ℕ) → HasLeft q m → view_at after m ≡ gone)
       → ((m : ℕ) → m ≢ 0 → HasLeft p m) → CellLaw z q after
@@ -135,6 +137,9 @@ module _ (z : Area) (p q : Plain) (ss : List PlainSeat) (at : ℕ) (views : List
         apart = λ s r l k t a b. law.apart s r l k t (fewer s l t a) (fewer r k t b);
         learnt = at_view views 0 w (Learnt z q after) here learnt_root
             (λ m ne. learnt_shut (view_at views m) (law.learnt m));
+        granted = at_view views 0 w (λ (x : View). length x.bound ≤ x.grant) here (law.granted 0)
+            (λ m ne. law.granted m);
+        room = let a = shares_set views 0 w here refl in let b = law.room in omega arith;
         left = gone_then;
         alone = λ is m ne. left_then m (alone m ne);
       }

@@ -23,7 +23,7 @@ use Rattle.cell_law.proofs.Kit.{in_either}
 use Rattle.cell_law.proofs.Stands.{bound_word}
 
 -- a head that is listed stands in the list of all, and the other way round
-in_all : (views : List View) (n : ℕ) (e : Rope) → In e (bound_in (view_at views n))
+pub in_all : (views : List View) (n : ℕ) (e : Rope) → In e (bound_in (view_at views n))
     → In e (all_bound views)
 unfolding all_bound
 in_all [] n e i = absurd i

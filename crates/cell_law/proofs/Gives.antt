@@ -1,5 +1,5 @@
 -- What the law says to callers, of cells and of what a seat saw.
-use Rattle.std.proofs.Common.{◌≡◌, ◌≢◌, ℕ, ◌<◌, false, List, [], ◌∷◌, ◌++◌, refl, ap, ◌∙◌, subst}
+use Rattle.std.proofs.Common.{◌≡◌, ◌≢◌, inl, ℕ, ◌<◌, false, List, [], ◌∷◌, ◌++◌, refl, ap, ◌∙◌, subst}
 use Rattle.std.specs.Prelude.{Some, None}
 use Rattle.plain_protocol.specs.plain_state.declared.slot.SlotId.{SlotId}
 use Rattle.plain_protocol.specs.plain_state.Lawful.{Lawful}
@@ -83,7 +83,7 @@ absent z p views n text m meets seat uncleared walked null =
     let law = meets.law in
     let opened = open_for z p views law n seat.0 seat.1 uncleared in
     let none = null_tells z p views meets.lawful law opened text m
-    (walked_passed z p views meets.lawful law opened n text m walked) null in
+    (walked_passed z p views meets.lawful law opened n text m walked) (inl null) in
     record {
       record_of = none;
       unlisted = λ s l k. none s (listed_record z p views meets.lawful law opened s l text k);

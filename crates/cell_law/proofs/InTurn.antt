@@ -17,7 +17,7 @@ use Rattle.directory_law.specs.Steps.{LooksAt, id, life_in, payload_in, payload_
 use Rattle.directory_law.specs.Views.{In, rope, without}
 use Rattle.directory_law.specs.Walks.{NotPrefix}
 use Rattle.directory_law.proofs.Notes.{each_known}
-use Rattle.cell_law.specs.Views.{Sight, View, IsWord}
+use Rattle.cell_law.specs.Views.{Sight, View, IsWord, MayBind}
 use Rattle.cell_law.specs.Lessons.{FindReady, ReadReady, look_next, read_next}
 use Rattle.cell_law.specs.Making.{BindReady, LinkReady, Links, link_next, make_next, sees}
 use Rattle.cell_law.specs.Walks.{HasAll, KeepsSeen, Passes, SawAll, Walked, last_of, last_sight, payloads}
@@ -115,18 +115,19 @@ link_follows v r s first second third fourth own step same_r same_s owned part_o
     }
 
 pub bind_follows_make : (z : Area) (v : View) (s : SlotId) (first second own : OwnPart) (m : ℕ)
-    → alone second s ≡ alone own s → 0 < z.cells → v.cleared ≡ false
+    → alone second s ≡ alone own s → 0 < z.cells → v.cleared ≡ false → MayBind v
     → 0 < times s own.seat.owned → IsWord (payload_in own s ∷ [])
     → Walked z own (make_next first second v (act.Make s) 0) (payload_in own s ∷ []) m
     → BindReady z own (make_next first second v (act.Make s) 0)
     (act.TryReplace (Cell (z.first + on z (payload_in own s ∷ []) m)) None (Some s))
-bind_follows_make z v s first second own m same some uncleared owned is walked = record {
+bind_follows_make z v s first second own m same some uncleared may owned is walked = record {
   slot = s;
   text = payload_in own s ∷ [];
   passed = m;
   act_is = refl;
   some_cells = some;
   is_open = uncleared;
+  granted = may;
   owned = owned;
   is_word = is;
   walked = walked;
@@ -137,18 +138,19 @@ bind_follows_make z v s first second own m same some uncleared owned is walked =
 pub bind_follows_link : (z : Area) (v : View) (r s : SlotId) (own after later : OwnPart)
     (step : PlainAct) (es : List Rope) (m : ℕ)
     → v.noted ≡ alone own s ∷ alone own r ∷ es → life_in later s ≡ life_in own s
-    → 0 < z.cells → v.cleared ≡ false → 0 < times s later.seat.owned
+    → 0 < z.cells → v.cleared ≡ false → MayBind v → 0 < times s later.seat.owned
     → IsWord (payload_in own s ∷ payload_in own r ∷ [])
     → Walked z later (link_next own after v step 0) (payload_in own s ∷ payload_in own r ∷ []) m
     → BindReady z later (link_next own after v step 0)
     (act.TryReplace (Cell (z.first + on z (payload_in own s ∷ payload_in own r ∷ []) m)) None (Some s))
-bind_follows_link z v r s own after later step es m noted life some uncleared owned is walked = record {
+bind_follows_link z v r s own after later step es m noted life some uncleared may owned is walked = record {
   slot = s;
   text = payload_in own s ∷ payload_in own r ∷ [];
   passed = m;
   act_is = refl;
   some_cells = some;
   is_open = uncleared;
+  granted = may;
   owned = owned;
   is_word = is;
   walked = walked;
@@ -166,6 +168,10 @@ still_open : (c found : ℕ) (v : View) → (sees c found v).cleared ≡ v.clear
 still_open c zero v = refl
 still_open c (suc s) v = refl
 
+still_may : (c found : ℕ) (v : View) → MayBind v → MayBind (sees c found v)
+still_may c zero v may = may
+still_may c (suc s) v may = may
+
 pub bind_follows_bind : (z : Area) (v : View) (own later : OwnPart) (c found m : ℕ)
     (step : PlainAct) → (ready : BindReady z own v step)
     → life_in later ready.slot ≡ life_in own ready.slot → 0 < times ready.slot later.seat.owned
@@ -179,6 +185,7 @@ bind_follows_bind z v own later c found m step ready life owned walked = record 
   act_is = refl;
   some_cells = ready.some_cells;
   is_open = still_open c found v ∙ ready.is_open;
+  granted = still_may c found v ready.granted;
   owned = owned;
   is_word = ready.is_word;
   walked = walked;

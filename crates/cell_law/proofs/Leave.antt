@@ -1,5 +1,6 @@
 -- A seat that leaves: its view joins that of seat 0.
-use Rattle.std.proofs.Common.{◌≡◌, ◌≢◌, ⊎_elim, ℕ, ◌<◌, List, [], ◌++◌, length, set, ap, sym, ◌∙◌, subst, arith}
+use Rattle.std.specs.Prelude.{sum}
+use Rattle.std.proofs.Common.{◌≡◌, ◌≢◌, ⊎_elim, ℕ, ◌<◌, ◌≤◌, List, [], ◌++◌, length, set, ap, sym, ◌∙◌, subst, arith, length-append}
 use Rattle.std.proofs.lemmas.List.{length-set, get_or-set_same, get_or-set_other, set-set, set_comm}
 use Rattle.std.proofs.lemmas.Bool.{cases_eq}
 use Rattle.plain_protocol.specs.plain_state.declared.act.PlainAct.TheVariants as act
@@ -17,13 +18,14 @@ use Rattle.directory_law.specs.Learnt.{Built}
 use Rattle.directory_law.specs.Law.{DirectoryLaw}
 use Rattle.directory_law.proofs.Leave.{leave_keeps as directory_leave}
 use Rattle.directory_law.proofs.Notes.{append_of, each_append, in_left, in_right}
-use Rattle.cell_law.specs.Views.{View, gone, joined, view_at, bound_in, BoundIn, made, makers, IsWord}
+use Rattle.cell_law.specs.Views.{View, gone, joined, view_at, bound_in, BoundIn, made, makers, IsWord, shares}
 use Rattle.cell_law.specs.Cells.{cell, no_cells}
 use Rattle.cell_law.specs.Law.{Learnt, CellLaw}
 use Rattle.cell_law.proofs.Kit.{view_here, view_else, maker_at, makers_set, makers_long, meets_records, in_either, bound_back, each_left, each_right}
 use Rattle.cell_law.proofs.Records.{law_reordered}
 use Rattle.cell_law.proofs.Moves.{Step, learnt_on, cell_on, stands_on}
 use Rattle.cell_law.proofs.Gone.{left_after, gone_leave}
+use Rattle.cell_law.proofs.Shares.{shares_join}
 
 -- what holds of each note and each head of two views holds of those of the joined one
 each_joined : (P : Rope → Type 0) (v w : View) → Each P (v.noted ++ bound_in v)
@@ -204,6 +206,7 @@ module _ (z : Area) (p q : Plain) (j found : ℕ) (views : List View)
         seen = l.seen;
         found = each_append (λ (e : Rope). BoundIn after e.slot e.life e.text) v.found w.found
             l.found k.found;
+        own = l.own;
       }
 
   learnt_at : (m : ℕ) → Learnt z q after (view_at after m)
@@ -211,7 +214,7 @@ module _ (z : Area) (p q : Plain) (j found : ℕ) (views : List View)
       ⊎_elim
       (λ (e : m ≡ j). subst (Learnt z q after)
       (sym (ap (λ (k : ℕ). view_at after k) e ∙ at_left))
-      (record { texts = tt; seen = tt; found = tt }))
+      (record { texts = tt; seen = tt; found = tt; own = tt }))
       (λ (not_j : m ≢ j).
       ⊎_elim
       (λ (e : m ≡ 0). subst (Learnt z q after)
@@ -221,6 +224,29 @@ module _ (z : Area) (p q : Plain) (j found : ℕ) (views : List View)
       (meets.law.learnt m)))
       (cases_eq m 0))
       (cases_eq m j)
+
+  granted_at : (m : ℕ) → length (view_at after m).bound ≤ (view_at after m).grant
+  granted_at m =
+      let P = (λ (v : View). length v.bound ≤ v.grant) in
+      ⊎_elim
+      (λ (e : m ≡ j). subst P (sym (ap (λ (k : ℕ). view_at after k) e ∙ at_left)) (omega arith))
+      (λ (not_j : m ≢ j).
+      ⊎_elim
+      (λ (e : m ≡ 0). subst P (sym (ap (λ (k : ℕ). view_at after k) e ∙ at_root))
+      (meets.law.granted 0))
+      (λ (not_0 : m ≢ 0). subst P (sym (at_other m not_j not_0)) (meets.law.granted m))
+      (cases_eq m 0))
+      (cases_eq m j)
+
+  room_left : shares after ≤ sum z.interns
+  room_left =
+      let v = view_at views 0 in
+      let w = view_at views j in
+      let a = length-append v.joined (bound_in w) in
+      let b = length-append w.bound w.joined in
+      let c = meets.law.granted j in
+      let d = shares_join views j root some_views inside other (omega arith) in
+      let e = meets.law.room in omega arith
 
   pub law_left : CellLaw z q (set (set views 0 (joined (view_at views 0) (view_at views j))) j gone)
   law_left =
@@ -235,6 +261,8 @@ module _ (z : Area) (p q : Plain) (j found : ℕ) (views : List View)
             (fewer s l t k);
         apart = λ s r l k t a b. law.apart s r l k t (fewer s l t a) (fewer r k t b);
         learnt = learnt_at;
+        granted = granted_at;
+        room = room_left;
         left = gone_leave p q j found does views meets.count law.left;
         alone = λ is m ne. left_after p q j found does m
             (law.alone (sym (ap (λ (v : View). v.cleared) at_root) ∙ is) m ne);

@@ -14,6 +14,7 @@ pub mod BindDeed
 pub mod Clearing
 pub mod Gives
 pub mod Distinct
+pub mod Shares
 pub mod Held
 pub mod Rest
 pub mod InTurn

@@ -1,5 +1,5 @@
 -- The deeds that look at cells and fields, and that find records, keep the law.
-use Rattle.std.proofs.Common.{◌≡◌, ◌≢◌, inl, ⊎_elim, ℕ, zero, suc, ◌+◌, ◌-◌, ◌<◌, false, List, [], ◌∷◌, ◌++◌, length, get_or, set, refl, ap, sym, ◌∙◌, subst, arith}
+use Rattle.std.proofs.Common.{◌≡◌, ◌≢◌, inl, inr, ⊎_elim, ℕ, zero, suc, ◌+◌, ◌-◌, ◌<◌, false, List, [], ◌∷◌, ◌++◌, length, get_or, set, refl, ap, sym, ◌∙◌, subst, arith}
 use Rattle.std.specs.Prelude.{Option, Some, None}
 use Rattle.plain_protocol.specs.plain_state.declared.act.EventPlace.TheVariants.{Cell, Field}
 use Rattle.plain_protocol.specs.plain_state.declared.act.PlainAct.{PlainAct}
@@ -23,20 +23,22 @@ use Rattle.directory_law.specs.Law.{DirectoryLaw}
 use Rattle.directory_law.specs.Steps.{id, slot_of, LooksAt}
 use Rattle.directory_law.proofs.Ends.{append_none, text_ends}
 use Rattle.directory_law.proofs.Looks.{Looked, looked, word_slot}
+use Rattle.directory_law.proofs.Kit.{none_some}
 use Rattle.directory_law.proofs.Notes.{each_in}
 use Rattle.directory_law.proofs.Quiet.{calm_keeps as directory_calm}
 use Rattle.queue_law.proofs.Left.{does_left}
-use Rattle.cell_law.specs.Views.{Sight, View, gone, view_at, BoundIn, IsOpen, makers}
+use Rattle.cell_law.specs.Views.{Sight, View, gone, view_at, BoundIn, IsOpen, makers, sight}
 use Rattle.cell_law.specs.Cells.{cell, no_cells, IsRecord}
 use Rattle.cell_law.specs.Law.{Follows, Saw, CellLaw}
 use Rattle.cell_law.specs.Walks.{HasAll, payloads, WalksTell, last_sight, last_of}
-use Rattle.cell_law.specs.Making.{cell_of, sight, sees}
-use Rattle.cell_law.specs.Lessons.{LookReady, LookTells, look_next, ReadReady, ReadTells, read_next, sees_part, SightsHold, FindReady, FindTells, find_next, found_rope}
+use Rattle.cell_law.specs.Making.{cell_of, sees}
+use Rattle.cell_law.specs.Lessons.{LookReady, LookTells, look_next, ReadReady, ReadTells, read_next, sees_part, SightsHold, FindReady, FindTells, Finds, NullsUnseen, find_next, found_rope}
 use Rattle.cell_law.proofs.Kit.{maker_at, makers_set, meets_records}
 use Rattle.cell_law.proofs.Stands.{open_for}
-use Rattle.cell_law.proofs.Moves.{Step, Fixed, sight_holds, learnt_on, step_set, law_set}
+use Rattle.cell_law.proofs.Moves.{Step, Fixed, learns_alike, own_on, sight_holds, learnt_on, step_set, law_set}
 use Rattle.cell_law.proofs.Records.{law_same_notes}
-use Rattle.cell_law.proofs.Walks.{has_life, seen_text, walked_passed, null_tells, whole_text}
+use Rattle.cell_law.proofs.Shares.{alone_bound, has_room}
+use Rattle.cell_law.proofs.Walks.{has_life, new_text, seen_text, walked_passed, null_tells, whole_text}
 
 -- a calm step, at which a view learns
 module _ (z : Area) (p q : Plain) (views : List View) (n : ℕ) (step : PlainAct) (found : ℕ)
@@ -61,7 +63,8 @@ module _ (z : Area) (p q : Plain) (views : List View) (n : ℕ) (step : PlainAct
   fields s fixed = ((left.slots s).fields fixed.live).1
 
   pub step_learns : Step z p q views (set views n w)
-  step_learns = step_set z p q views n w here meets.lawful meets.law cells_same life fields refl refl
+  step_learns = step_set z p q views n w here meets.lawful meets.law cells_same life fields
+      (learns_alike v v.noted xs fs)
 
   records : DirectoryLaw no_cells q (makers (set views n w))
   records =
@@ -73,13 +76,14 @@ module _ (z : Area) (p q : Plain) (views : List View) (n : ℕ) (step : PlainAct
 
   pub law_learns : Each (Saw z q (set views n w)) xs
       → Each (λ (e : Rope). BoundIn (set views n w) e.slot e.life e.text) fs
-      → CellLaw z q (set views n w)
-  law_learns seen listed =
+      → ((e : Sight) → In e v.seen → In e xs) → CellLaw z q (set views n w)
+  law_learns seen listed more =
       let l = learnt_on z p q views (set views n w) meets.lawful meets.law step_learns v
       (meets.law.learnt n) in
-      law_set z p q views n w here meets.lawful meets.law cells_same life fields refl refl
+      law_set z p q views n w here meets.lawful meets.law cells_same life fields
+      (learns_alike v v.noted xs fs)
       (does_left p q n step found (λ j e. subst IsCalm e calm) does) does.0.0 does.0.1 records
-      (record { texts = l.texts; seen = seen; found = listed })
+      (record { texts = l.texts; seen = seen; found = listed; own = own_on v w v.bound more l.own })
 
 -- of a seat that hasn't cleared, what it saw holds
 pub sights_hold : (z : Area) (p : Plain) (views : List View) (n : ℕ) (w : View) → Lawful p
@@ -99,10 +103,22 @@ looks_cell z at step looks =
 
 pub walks_tell : (z : Area) (p q : Plain) (views : List View) (n : ℕ) (step : PlainAct) (found : ℕ)
     → Meets (CellLaw z) p views → Does p n step found q → WalksTell z p n (view_at views n)
-walks_tell z p q views n step found meets does text m uncleared walked null =
+walks_tell z p q views n step found meets does text m uncleared walked ends =
     let opened = open_for z p views meets.law n does.0.0 does.0.1 uncleared in
-    null_tells z p views meets.lawful meets.law opened text m
-    (walked_passed z p views meets.lawful meets.law opened n text m walked) null
+    new_text z p views meets.lawful meets.law opened n text
+    (null_tells z p views meets.lawful meets.law opened text m
+    (walked_passed z p views meets.lawful meets.law opened n text m walked) ends)
+
+-- no slot was seen in a cell that is null
+nulls_unseen : (z : Area) (p : Plain) (views : List View) (n : ℕ) → CellLaw z p views
+    → ((view_at views n).cleared ≡ false → IsOpen views) → NullsUnseen z p (view_at views n)
+nulls_unseen z p views n law opens uncleared e i some null =
+    go e.slots some ((each_in (Saw z p views) e (view_at views n).seen i (law.learnt n).seen).1
+    (opens uncleared))
+  where
+    go : (ss : List SlotId) → ss ≢ [] → Follows p (cell z p e.cell) ss → ⊥
+    go [] some follows = some refl
+    go (s ∷ ss) some follows = none_some s (sym null ∙ follows.0)
 
 module _ (z : Area) (p q : Plain) (views : List View) (n : ℕ) (step : PlainAct) (found : ℕ)
     (meets : Meets (CellLaw z) p views) (here : n < length views)
@@ -115,11 +131,13 @@ module _ (z : Area) (p q : Plain) (views : List View) (n : ℕ) (step : PlainAct
 
   told : (w : View) → w.cleared ≡ (view_at views n).cleared → Each (Saw z p views) w.seen
       → LookTells z p q n (view_at views n) w
-  told w same saw = (
-    λ c s h is. cells_same z p q views n step found meets here look.calm does [] [] c h ∙ is,
-    walks_tell z p q views n step found meets does,
-    sights_hold z p views n w meets.lawful meets.law (λ e. opens (sym same ∙ e)) saw,
-  )
+  told w same saw = record {
+    stays = λ c s h is. cells_same z p q views n step found meets here look.calm does [] [] c h ∙ is;
+    walks = walks_tell z p q views n step found meets does;
+    holds = sights_hold z p views n w meets.lawful meets.law (λ e. opens (sym same ∙ e)) saw;
+    unseen = nulls_unseen z p views n meets.law opens;
+    room = has_room z p views meets.law n here;
+  }
 
   law_looks : (k : ℕ) → cell z p ready.at ≡ slot_of k
       → CellLaw z q (set views n (sees ready.at k (view_at views n)))
@@ -130,7 +148,8 @@ module _ (z : Area) (p q : Plain) (views : List View) (n : ℕ) (step : PlainAct
       let after = set views n v in
       let step_is = step_learns z p q views n step found meets here look.calm does v.seen v.found in
       let on = learnt_on z p q views after meets.lawful meets.law step_is v l in (
-        law_learns z p q views n step found meets here look.calm does v.seen v.found on.seen on.found,
+        law_learns z p q views n step found meets here look.calm does v.seen v.found on.seen on.found
+            (λ x i. i),
         told v refl l.seen,
       )
   law_looks (suc s) is =
@@ -144,7 +163,7 @@ module _ (z : Area) (p q : Plain) (views : List View) (n : ℕ) (step : PlainAct
       let at_q = cells_same z p q views n step found meets here look.calm does [] [] ready.at
       ready.inside ∙ is in (
         law_learns z p q views n step found meets here look.calm does (e ∷ v.seen) v.found
-            ((ready.inside, λ o. (at_q, tt)), on.seen) on.found,
+            ((ready.inside, λ o. (at_q, tt)), on.seen) on.found (λ x i. inr i),
         told (record v { seen = e ∷ v.seen }) refl ((ready.inside, λ o. (is, tt)), l.seen),
       )
 
@@ -195,7 +214,7 @@ read_keeps z p q views n step found meets here ready does =
     let saw_q = each_in (Saw z q after) e v.seen in_seen on.seen in
     let opened = open_for z p views meets.law n does.0.0 does.0.1 in (
       law_learns z p q views n step found meets here o.calm does xs v.found
-          (saw_part z q after e found ready.some_slot saw_q is_q, on.seen) on.found,
+          (saw_part z q after e found ready.some_slot saw_q is_q, on.seen) on.found (λ x i. inr i),
       (
         λ c r h at. cells_same z p q views n step found meets here o.calm does [] [] c h ∙ at,
         sights_hold z p views n (record v { seen = xs }) meets.lawful meets.law opened
@@ -206,7 +225,7 @@ read_keeps z p q views n step found meets here ready does =
     )
 
 -- FIND
-pub record Finds (z : Area) (p : Plain) (n : ℕ) (views : List View) (ss : List SlotId)
+pub record Confirms (z : Area) (p : Plain) (n : ℕ) (views : List View) (ss : List SlotId)
     : Type 0 where
   pub bound : BoundIn views (found_rope (own_part p n) ss).slot (found_rope (own_part p n) ss).life
       (payloads (own_part p n) ss)
@@ -215,11 +234,11 @@ pub record Finds (z : Area) (p : Plain) (n : ℕ) (views : List View) (ss : List
 
 pub finds : (z : Area) (p : Plain) (n : ℕ) (views : List View) (e : Sight) → Lawful p
     → CellLaw z p views → IsOpen views → Saw z p views e → HasAll (own_part p n) e.slots
-    → IsText (payloads (own_part p n) e.slots) → Finds z p n views e.slots
+    → IsText (payloads (own_part p n) e.slots) → Confirms z p n views e.slots
 finds z p n views e lawful law opened saw has whole = go e.slots (saw.1 opened) has whole
   where
     go : (ss : List SlotId) → Follows p (cell z p e.cell) ss → HasAll (own_part p n) ss
-        → IsText (payloads (own_part p n) ss) → Finds z p n views ss
+        → IsText (payloads (own_part p n) ss) → Confirms z p n views ss
     go [] follows has whole = absurd whole
     go (s ∷ ss) follows has whole =
         let o = seen_text z p views lawful law opened n e.cell s ss saw.0 follows has in
@@ -254,9 +273,14 @@ find_keeps z p q views n step found meets here ready does =
     let opened = open_for z p views meets.law n does.0.0 does.0.1 ready.is_open in
     let o = finds z p n views e meets.lawful meets.law opened saw ready.has ready.whole in (
       law_learns z p q views n step found meets here ready.calm does v.seen fs on.seen
-          (step_is.more new.slot new.life new.text o.bound, on.found),
+          (step_is.more new.slot new.life new.text o.bound, on.found) (λ y i. i),
       λ x is.
           let at : new ≡ x = ap head_rope is in
-          subst (λ (y : Rope). IsRecord z p y.text y.slot × ((slot_at p y.slot).life ≡ y.life)) at
-          (o.of, o.life),
+          subst (λ (y : Rope). Finds z p v y) at
+          (record {
+            is = o.of;
+            life = o.life;
+            own = λ alone. alone_bound z p views meets.law n here alone new.slot new.life new.text
+                o.bound;
+          }),
     )

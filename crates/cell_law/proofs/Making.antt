@@ -34,7 +34,7 @@ use Rattle.cell_law.specs.Law.{CellLaw}
 use Rattle.cell_law.specs.Making.{MakeReady, MakeTells, make_next, LinkReady, LinkTells, Links, link_next}
 use Rattle.cell_law.proofs.Kit.{maker_at, makers_set, makers_long, meets_records}
 use Rattle.cell_law.proofs.Stands.{noted_built, noted_alone}
-use Rattle.cell_law.proofs.Moves.{Fixed, learnt_on, step_set, law_set}
+use Rattle.cell_law.proofs.Moves.{Fixed, learns_alike, learnt_on, step_set, law_set}
 
 -- a seat's next view, where it lists, has seen and has found what it did, and the records' law holds with it
 module _ (z : Area) (p q : Plain) (views : List View) (n : ℕ) (step : PlainAct) (found : ℕ)
@@ -48,13 +48,15 @@ module _ (z : Area) (p q : Plain) (views : List View) (n : ℕ) (step : PlainAct
   law_renoted : CellLaw z q (set views n (record (view_at views n) { noted = es }))
   law_renoted =
       let w : View = record (view_at views n) { noted = es } in
-      let step_is = step_set z p q views n w here meets.lawful meets.law cells life fields refl refl in
+      let v = view_at views n in
+      let alike = learns_alike v es v.seen v.found in
+      let step_is = step_set z p q views n w here meets.lawful meets.law cells life fields alike in
       let l = learnt_on z p q views (set views n w) meets.lawful meets.law step_is (view_at views n)
       (meets.law.learnt n) in
-      law_set z p q views n w here meets.lawful meets.law cells life fields refl refl
+      law_set z p q views n w here meets.lawful meets.law cells life fields alike
       (does_left p q n step found stay does) does.0.0 does.0.1
       (subst (DirectoryLaw no_cells q) (sym (makers_set views n w)) records)
-      (record { texts = l.texts; seen = l.seen; found = l.found })
+      (record { texts = l.texts; seen = l.seen; found = l.found; own = l.own })
 
 -- MAKE
 pub make_keeps : (z : Area) → Keeps (CellLaw z) gone MakeReady make_next (MakeTells z)

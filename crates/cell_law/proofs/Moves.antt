@@ -1,5 +1,5 @@
 -- What a step owes the law whatever it does, and what then stays.
-use Rattle.std.proofs.Common.{◌≡◌, ◌≢◌, ⊎_elim, ℕ, ◌<◌, false, List, [], ◌∷◌, length, set, refl, sym, ◌∙◌, subst, arith}
+use Rattle.std.proofs.Common.{◌≡◌, ◌≢◌, ⊎_elim, ℕ, ◌<◌, ◌≤◌, false, List, [], ◌∷◌, ◌++◌, length, set, refl, ap, sym, ◌∙◌, subst, arith}
 use Rattle.std.specs.Prelude.{Option, Some, None}
 use Rattle.plain_protocol.specs.plain_state.declared.slot.SlotId.{SlotId}
 use Rattle.plain_protocol.specs.plain_state.declared.slot.Stage.TheVariants.{Live}
@@ -7,7 +7,7 @@ use Rattle.plain_protocol.specs.plain_state.State.{Plain, seat_at, slot_at, stag
 use Rattle.plain_protocol.specs.plain_state.Lawful.{Lawful}
 use Rattle.directory_law.specs.declared.view.Rope.{Rope}
 use Rattle.directory_law.specs.Payloads.{Text, IsPart, IsOwn}
-use Rattle.directory_law.specs.Views.{In, rope}
+use Rattle.directory_law.specs.Views.{In, Each, rope}
 use Rattle.directory_law.specs.Cells.{Area, on}
 use Rattle.directory_law.specs.Law.{DirectoryLaw}
 use Rattle.directory_law.proofs.Kit.{none_some}
@@ -15,12 +15,13 @@ use Rattle.directory_law.proofs.Notes.{each_map}
 use Rattle.directory_law.proofs.Chains.{Pointed, live_own, pointed_part, part_own, second_live, begins_head}
 use Rattle.directory_law.proofs.Moves.{on_inside}
 use Rattle.queue_law.proofs.Left.{LeftSame}
-use Rattle.cell_law.specs.Views.{Sight, View, view_at, bound_in, BoundIn, IsOpen, makers}
+use Rattle.cell_law.specs.Views.{Sight, View, view_at, bound_in, BoundIn, IsOpen, makers, sight}
 use Rattle.cell_law.specs.Cells.{cell, no_cells, SetBefore, SetCell}
-use Rattle.cell_law.specs.Law.{Follows, Saw, Learnt, CellLaw}
+use Rattle.cell_law.specs.Law.{Follows, Saw, SawBound, Learnt, CellLaw}
 use Rattle.cell_law.specs.Making.{Stays}
 use Rattle.cell_law.specs.Lessons.{SightHolds}
 use Rattle.cell_law.proofs.Kit.{at_view, bound_more, bound_back, cleared_set}
+use Rattle.cell_law.proofs.Shares.{shares_set}
 use Rattle.cell_law.proofs.Stands.{standing_live, noted_unbound, noted_unled, bound_reads, set_record}
 use Rattle.cell_law.proofs.Gone.{left_on, gone_set}
 
@@ -123,6 +124,7 @@ module _ (z : Area) (p q : Plain) (views after : List View) (lawful : Lawful p)
     found = each_map (λ (e : Rope). BoundIn views e.slot e.life e.text)
         (λ (e : Rope). BoundIn after e.slot e.life e.text)
         (λ e h. step.more e.slot e.life e.text h) v.found l.found;
+    own = l.own;
   }
 
   set_stays : (d : ℕ) → d < z.cells → cell z p d ≢ None → cell z q d ≢ None
@@ -155,21 +157,41 @@ module _ (z : Area) (p q : Plain) (views after : List View) (lawful : Lawful p)
       let live = (standing_live z p o.0 s lawful o.2).0 in
       (o.0, o.1, step.stays o.0 s o.1 o.2, step.life s live ∙ o.3)
 
+-- a view lists what another does, and its seat may bind as many heads
+pub record Alike (w v : View) : Type 0 where
+  pub bound : w.bound ≡ v.bound
+  pub joined : w.joined ≡ v.joined
+  pub grant : w.grant ≡ v.grant
+  pub cleared : w.cleared ≡ v.cleared
+
+pub learns_alike : (v : View) (es : List Rope) (xs : List Sight) (fs : List Rope)
+    → Alike (record v { noted = es; seen = xs; found = fs }) v
+learns_alike v es xs fs = record { bound = refl; joined = refl; grant = refl; cleared = refl }
+
+-- what a seat bound it has seen, also where it has seen more
+pub own_on : (v w : View) (es : List Rope) → ((e : Sight) → In e v.seen → In e w.seen)
+    → Each (SawBound v) es → Each (SawBound w) es
+own_on v w es more own =
+    each_map (SawBound v) (SawBound w) (λ e h. (h.0, more (sight h.0 e.slot) h.1)) es own
+
 -- where no cell changes, one view does, and this lists what it listed
 module _ (z : Area) (p q : Plain) (views : List View) (n : ℕ) (w : View) (here : n < length views)
     (lawful : Lawful p) (law : CellLaw z p views)
     (cells : (c : ℕ) → c < z.cells → cell z q c ≡ cell z p c)
     (life : (s : SlotId) → stage_at p s ≡ Live → (slot_at q s).life ≡ (slot_at p s).life)
     (fields : (s : SlotId) → Fixed p views s → (slot_at q s).second ≡ (slot_at p s).second)
-    (listed : bound_in w ≡ bound_in (view_at views n))
-    (cleared : w.cleared ≡ (view_at views n).cleared) where
+    (alike : Alike w (view_at views n)) where
+  listed : bound_in w ≡ bound_in (view_at views n)
+  listed = ap (λ (es : List Rope). es ++ w.joined) alike.bound
+      ∙ ap (λ (es : List Rope). (view_at views n).bound ++ es) alike.joined
+
   pub step_set : Step z p q views (set views n w)
   step_set = record {
     stays = λ c s h is. cells c h ∙ is;
     life = life;
     fields = fields;
     more = bound_more views n w here (λ e i. subst (In e) (sym listed) i);
-    opened = λ opened. sym (cleared_set views n w here cleared) ∙ opened;
+    opened = λ opened. sym (cleared_set views n w here alike.cleared) ∙ opened;
   }
 
   fewer : (s : SlotId) (l : ℕ) (t : Text) → BoundIn (set views n w) s l t → BoundIn views s l t
@@ -196,6 +218,17 @@ module _ (z : Area) (p q : Plain) (views : List View) (n : ℕ) (w : View) (here
         learnt = at_view views n w (Learnt z q (set views n w)) here learnt
             (λ m ne. learnt_on z p q views (set views n w) lawful law step (view_at views m)
             (law.learnt m));
+        granted = at_view views n w (λ (v : View). length v.bound ≤ v.grant) here
+            (let a = law.granted n in
+            let b = ap (λ (es : List Rope). length es) alike.bound in
+            let c = alike.grant in omega arith)
+            (λ m ne. law.granted m);
+        room =
+            let a = shares_set views n w here
+            (let b = ap (λ (es : List Rope). length es) alike.joined in
+            let c = alike.grant in omega arith) in
+            let b = law.room in omega arith;
         left = gone_set p q n views w same there is_here law.left;
-        alone = λ is m ne. left_on p q m same (law.alone (sym (cleared_set views n w here cleared) ∙ is) m ne);
+        alone = λ is m ne. left_on p q m same
+            (law.alone (sym (cleared_set views n w here alike.cleared) ∙ is) m ne);
       }

@@ -1,5 +1,5 @@
 -- Calm steps, and steps that leave alone what the protocol owns, keep the law with all views as they were.
-use Rattle.std.proofs.Common.{◌≡◌, ◌≢◌, ⊎_elim, ℕ, ◌+◌, ◌<◌, List, length, get_or, set, refl, ap, sym, ◌∙◌, subst, arith}
+use Rattle.std.proofs.Common.{◌≡◌, ◌≢◌, ⊎_elim, ℕ, ◌+◌, ◌<◌, List, length, get_or, set, ap, sym, ◌∙◌, subst, arith}
 use Rattle.std.specs.Prelude.{Option, None}
 use Rattle.std.proofs.lemmas.List.{get_or-set_other}
 use Rattle.plain_protocol.specs.plain_state.declared.act.EventPlace.{EventPlace}
@@ -25,7 +25,7 @@ use Rattle.cell_law.specs.Cells.{cell, no_cells}
 use Rattle.cell_law.specs.Law.{CellLaw}
 use Rattle.cell_law.specs.Owned.{owns}
 use Rattle.cell_law.proofs.Kit.{set_same, meets_records}
-use Rattle.cell_law.proofs.Moves.{Fixed, learnt_on, step_set, law_set}
+use Rattle.cell_law.proofs.Moves.{Fixed, learns_alike, learnt_on, step_set, law_set}
 
 -- a step that changes no cell of the range, no life that lives and no field 1 of a record, and isn't a leave
 module _ (z : Area) (p q : Plain) (views : List View) (n : ℕ) (step : PlainAct) (found : ℕ)
@@ -39,10 +39,12 @@ module _ (z : Area) (p q : Plain) (views : List View) (n : ℕ) (step : PlainAct
   law_rests =
       let here : n < length views = subst (λ (k : ℕ). n < k) (sym meets.count) does.0.0 in
       let same = set_same views n in
+      let v = view_at views n in
+      let alike = learns_alike v v.noted v.seen v.found in
       let step_is = step_set z p q views n (view_at views n) here meets.lawful meets.law cells life
-      fields refl refl in
+      fields alike in
       subst (CellLaw z q) same
-      (law_set z p q views n (view_at views n) here meets.lawful meets.law cells life fields refl refl
+      (law_set z p q views n (view_at views n) here meets.lawful meets.law cells life fields alike
       (does_left p q n step found stay does) does.0.0 does.0.1
       (subst (λ (vs : List View). DirectoryLaw no_cells q (makers vs)) (sym same) records)
       (learnt_on z p q views (set views n (view_at views n)) meets.lawful meets.law step_is

@@ -1,12 +1,14 @@
 -- What a seat knows of the records that it saw, and what a walk tells.
-use Rattle.std.proofs.Common.{◌≡◌, ◌≢◌, ⊎_elim, ℕ, ◌<◌, ◌≤◌, List, [], ◌∷◌, ◌++◌, refl, ap, sym, ◌∙◌, subst, arith}
+use Rattle.std.proofs.Common.{◌≡◌, ◌≢◌, ◌⊎◌, ⊎_elim, ℕ, ◌<◌, ◌≤◌, List, [], ◌∷◌, ◌++◌, refl, ap, sym, ◌∙◌, subst, arith}
 use Rattle.std.specs.Prelude.{Option, Some, None}
 use Rattle.std.proofs.lemmas.Bool.{cases_eq, cases_lt}
 use Rattle.plain_protocol.specs.plain_state.declared.slot.SlotId.{SlotId}
 use Rattle.plain_protocol.specs.plain_state.State.{Plain, slot_at}
 use Rattle.plain_protocol.specs.plain_state.Lawful.{Lawful}
 use Rattle.plain_protocol.specs.Owns.{Object, own_part, object_of}
+use Rattle.directory_law.specs.declared.view.Rope.{Rope}
 use Rattle.directory_law.specs.Payloads.{Text, IsText}
+use Rattle.directory_law.specs.Views.{In}
 use Rattle.directory_law.specs.Chains.{Along, Reads}
 use Rattle.directory_law.specs.Cells.{Area, on}
 use Rattle.directory_law.specs.Steps.{life_in, payload_in, life_of, payload_of}
@@ -15,10 +17,11 @@ use Rattle.directory_law.proofs.Chains.{reads_same}
 use Rattle.directory_law.proofs.Kit.{none_some, some_same}
 use Rattle.directory_law.proofs.Notes.{each_in}
 use Rattle.directory_law.proofs.Owns.{object_is}
-use Rattle.cell_law.specs.Views.{Sight, View, view_at, BoundIn, IsOpen}
-use Rattle.cell_law.specs.Cells.{cell, IsRecord, NoRecord}
+use Rattle.cell_law.specs.Views.{Sight, View, view_at, bound_in, BoundIn, IsOpen}
+use Rattle.cell_law.specs.Cells.{cell, IsNew, IsRecord, NoRecord}
 use Rattle.cell_law.specs.Law.{Follows, Saw, CellLaw}
 use Rattle.cell_law.specs.Walks.{HasAll, payloads, Passes, Walked, last_of}
+use Rattle.cell_law.proofs.Kit.{in_either}
 use Rattle.cell_law.proofs.Stands.{bound_reads, bound_text, one_text, record_bound, set_record, standing_live}
 
 -- what the seat has of a slot is the state's
@@ -186,10 +189,10 @@ module _ (z : Area) (p : Plain) (views : List View) (lawful : Lawful p) (law : C
       → Walked z (own_part p n) (view_at views n) text m → Passed z p text m
   walked_passed n text m walked j lt = passes_at n text (on z text j) (walked j lt)
 
-  -- where the walk comes to a null cell, no cell holds a record of the text
-  pub null_tells : (text : Text) (m : ℕ) → Passed z p text m → cell z p (on z text m) ≡ None
-      → NoRecord z p text
-  null_tells text m passed null s r =
+  -- where the walk comes to a null cell, or has passed all cells, no cell holds a record of the text
+  pub null_tells : (text : Text) (m : ℕ) → Passed z p text m
+      → (cell z p (on z text m) ≡ None) ⊎ (z.cells ≤ m) → NoRecord z p text
+  null_tells text m passed ends s r =
       let c : ℕ = r.stands.0 in
       let is = r.stands.2 in
       let o = law.cells c s r.stands.1 is in
@@ -206,12 +209,16 @@ module _ (z : Area) (p : Plain) (views : List View) (lawful : Lawful p) (law : C
       r.reads))
       (λ (h : m ≤ w0.0).
       ⊎_elim
+      (λ null.
+      ⊎_elim
       (λ (e : w0.0 ≡ m). none_some s (sym null
       ∙ (ap (λ (k : ℕ). cell z p (on z text k)) (sym e)
       ∙ (ap (λ (d : ℕ). cell z p d) (sym at) ∙ is))))
       (λ (ne : w0.0 ≢ m). w0.3 m (omega arith)
       (ap (λ (t : Text). cell z p (on z t m)) same ∙ null))
       (cases_eq w0.0 m))
+      (λ (all : z.cells ≤ m). let short = w0.1 in omega arith)
+      ends)
       (cases_lt w0.0 m)
 
   -- what is listed as bound is a record
@@ -227,3 +234,19 @@ module _ (z : Area) (p : Plain) (views : List View) (lawful : Lawful p) (law : C
         reads = (bound_reads z p views law s text live
             (subst (λ (x : ℕ). BoundIn views s x text) (sym o.3) k)).1;
       }
+
+  -- where no cell holds a record of the text, no view tells of one
+  pub new_text : (n : ℕ) (text : Text) → NoRecord z p text → IsNew z p (view_at views n) text
+  new_text n text none = record {
+    none = none;
+    untold = λ e i same. ⊎_elim
+        (λ (f : In e (view_at views n).found).
+        unlisted e (each_in (λ (r : Rope). BoundIn views r.slot r.life r.text) e
+        (view_at views n).found f (law.learnt n).found) same)
+        (λ (b : In e (bound_in (view_at views n))). unlisted e (n, b) same)
+        (in_either e (view_at views n).found (bound_in (view_at views n)) i);
+  }
+    where
+      unlisted : (e : Rope) → BoundIn views e.slot e.life e.text → e.text ≡ text → ⊥
+      unlisted e k same = none e.slot (subst (λ (t : Text). IsRecord z p t e.slot) same
+          (listed_record e.slot e.life e.text k))

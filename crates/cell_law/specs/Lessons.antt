@@ -14,7 +14,7 @@ use Rattle.directory_law.specs.Views.{In, rope}
 use Rattle.directory_law.specs.Cells.{Area}
 use Rattle.directory_law.specs.Steps.{id, life_in, LooksAt}
 use Rattle.cell_law.specs.Views.{Sight, View}
-use Rattle.cell_law.specs.Cells.{cell, IsRecord}
+use Rattle.cell_law.specs.Cells.{BindsAlone, HasRoom, IsRecord, cell}
 use Rattle.cell_law.specs.Walks.{HasAll, payloads, WalksTell, last_sight, last_of}
 use Rattle.cell_law.specs.Making.{cell_of, sees, Stays}
 
@@ -37,9 +37,18 @@ SightHolds p (s ∷ ss) =
 abbrev pub SightsHold : Plain → View → Type 0
 SightsHold p w = w.cleared ≡ false → (e : Sight) → In e w.seen → SightHolds p e.slots
 
+-- no slot was seen in a cell that is null
+abbrev pub NullsUnseen : Area → Plain → View → Type 0
+NullsUnseen z p v =
+    v.cleared ≡ false → (e : Sight) → In e v.seen → e.slots ≢ [] → cell z p e.cell ≢ None
+
 -- and where the walk of a text ends here, no cell holds a record with it
-abbrev pub LookTells : Area → Plain → Plain → ℕ → View → View → Type 0
-LookTells z p q n v w = Stays z p q × WalksTell z p n v × SightsHold p w
+pub record LookTells (z : Area) (p q : Plain) (n : ℕ) (v w : View) : Type 0 where
+  pub stays : Stays z p q
+  pub walks : WalksTell z p n v
+  pub holds : SightsHold p w
+  pub unseen : NullsUnseen z p v
+  pub room : HasRoom z p v
 
 -- READ. Field 1 of the slot that was seen last: the part that it holds is seen then
 pub record ReadReady (own : OwnPart) (v : View) (step : PlainAct) : Type 0 where
@@ -87,10 +96,14 @@ abbrev pub find_next : OwnPart → OwnPart → View → PlainAct → ℕ → Vie
 find_next own after v step found =
     record v { found = found_rope own (last_sight v.seen).slots ∷ v.found }
 
--- it is the record of that text
+-- it is the record of that text, and where all was granted to this seat it has bound that itself
+pub record Finds (z : Area) (p : Plain) (v : View) (e : Rope) : Type 0 where
+  pub is : IsRecord z p e.text e.slot
+  pub life : (slot_at p e.slot).life ≡ e.life
+  pub own : BindsAlone z v → In e v.bound
+
 abbrev pub FindTells : Area → Plain → Plain → ℕ → View → View → Type 0
-FindTells z p q n v w =
-    (e : Rope) → w.found ≡ e ∷ v.found → IsRecord z p e.text e.slot × ((slot_at p e.slot).life ≡ e.life)
+FindTells z p q n v w = (e : Rope) → w.found ≡ e ∷ v.found → Finds z p v e
 
 -- CLEAR. Seat 0, when it is alone, puts null into a cell
 pub record ClearReady (z : Area) (own : OwnPart) (v : View) (step : PlainAct) : Type 0 where

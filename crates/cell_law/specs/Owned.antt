@@ -1,8 +1,9 @@
--- What the protocol owns: the cells of its range, and every object.
+-- What the protocol owns: the cells of its range, and every object; and with what its seats begin.
 use Rattle.std.specs.Prelude.{ℕ, ◌+◌, ◌<◌, ◌≤◌}
 use Rattle.plain_protocol.specs.Acts.{Owned}
 use Rattle.directory_law.specs.Cells.{Area}
 use Rattle.cell_law.specs.Views.{View, gone}
+use Rattle.cell_law.specs.Cells.{grant}
 
 abbrev pub owns : Area → Owned
 owns z = record {
@@ -12,5 +13,6 @@ owns z = record {
   tickets = ⊥;
 }
 
-abbrev pub first_view : ℕ → View
-first_view n = gone
+-- the view of seat n at the start
+abbrev pub first_view : Area → ℕ → View
+first_view z n = record gone { grant = grant z n }

@@ -1,5 +1,6 @@
--- The views of seats: with what a seat begins, what becomes of a view where a seat leaves, and which texts are bound.
-use Rattle.std.specs.Prelude.{◌≡◌, ℕ, false, List, [], ◌∷◌, ◌++◌, map, slice_index_or}
+-- The views of seats: with what a seat begins, what becomes of a view where a seat leaves, which texts are bound, and
+-- how many may be.
+use Rattle.std.specs.Prelude.{◌≡◌, ◌≢◌, ℕ, ◌+◌, ◌<◌, false, List, [], ◌∷◌, ◌++◌, length, map, slice_index_or, sum_by}
 use Rattle.std.specs.List.{flat_map}
 use Rattle.plain_protocol.specs.plain_state.declared.slot.SlotId.{SlotId}
 use Rattle.directory_law.specs.declared.view.Rope.{Rope}
@@ -11,9 +12,17 @@ use Rattle.directory_law.specs.Views as directory
 pub use Rattle.cell_law.specs.declared.view.Sight.{Sight}
 pub use Rattle.cell_law.specs.declared.view.View.{View}
 
--- the view of a seat at the start, and of one that has left
+-- the view of a seat that has left
 abbrev pub gone : View
-gone = record { noted = []; bound = []; joined = []; seen = []; found = []; cleared = false }
+gone = record {
+  grant = 0;
+  noted = [];
+  bound = [];
+  joined = [];
+  seen = [];
+  found = [];
+  cleared = false;
+}
 
 abbrev pub view_at : List View → ℕ → View
 view_at views n = slice_index_or views n gone
@@ -57,6 +66,29 @@ words_of es = map text_bytes (texts_of es)
 -- seat 0 hasn't begun to clear the cells
 abbrev pub IsOpen : List View → Type 0
 IsOpen views = (view_at views 0).cleared ≡ false
+
+-- one slot, seen in a cell
+abbrev pub sight : ℕ → SlotId → Sight
+sight c s = record { cell = c; slots = s ∷ [] }
+
+-- no slot was seen in cell c
+abbrev pub Unseen : View → ℕ → Type 0
+Unseen v c = (e : Sight) → In e v.seen → e.slots ≢ [] → e.cell ≢ c
+
+-- the seat may put one head more into a cell
+abbrev pub MayBind : View → Type 0
+MayBind v = length v.bound < v.grant
+
+-- by the view the text has no record: none was found, nor is one listed as bound
+abbrev pub TellsNone : View → Text → Type 0
+TellsNone v text = (e : Rope) → In e (v.found ++ bound_in v) → e.text ≢ text
+
+-- the most heads that views may list: those that their seats may put into cells, and those of seats that have left
+abbrev pub share : View → ℕ
+share v = v.grant + length v.joined
+
+unfoldable pub shares : List View → ℕ
+shares views = sum_by share views
 
 -- what a seat made and linked, as the view of a directory in which it bound nothing
 abbrev pub made : View → DirectoryView

@@ -1,5 +1,5 @@
 -- How far a seat knows that it walked: the cells that a text passes.
-use Rattle.std.specs.Prelude.{◌≡◌, ◌≢◌, ℕ, ◌<◌, false, List, [], ◌∷◌, map, None}
+use Rattle.std.specs.Prelude.{◌≡◌, ◌≢◌, ◌⊎◌, ℕ, ◌<◌, ◌≤◌, false, List, [], ◌∷◌, map, None}
 use Rattle.plain_protocol.specs.plain_state.declared.slot.SlotId.{SlotId}
 use Rattle.plain_protocol.specs.plain_state.State.{Plain}
 use Rattle.plain_protocol.specs.Owns.{OwnPart, own_part}
@@ -9,7 +9,7 @@ use Rattle.directory_law.specs.Cells.{Area, on}
 use Rattle.directory_law.specs.Steps.{id, payload_in}
 use Rattle.directory_law.specs.Walks.{NotPrefix}
 use Rattle.cell_law.specs.Views.{Sight, View}
-use Rattle.cell_law.specs.Cells.{cell, NoRecord}
+use Rattle.cell_law.specs.Cells.{cell, IsNew}
 
 -- the seat has the objects of these slots
 abbrev pub HasAll : OwnPart → List SlotId → Type 0
@@ -40,11 +40,12 @@ KeepsSeen own after v =
     (e : Sight) (s : SlotId) → In e v.seen → In s e.slots → own.objects s ≢ None
     → after.objects s ≡ own.objects s
 
--- where the walk of seat n comes to a null cell, no cell holds a record with the text
+-- where the walk of seat n comes to a null cell, or has passed all cells, no cell holds a record with the text, and the
+-- view tells of none
 abbrev pub WalksTell : Area → Plain → ℕ → View → Type 0
 WalksTell z p n v =
     (text : Text) (m : ℕ) → v.cleared ≡ false → Walked z (own_part p n) v text m
-    → cell z p (on z text m) ≡ None → NoRecord z p text
+    → (cell z p (on z text m) ≡ None) ⊎ (z.cells ≤ m) → IsNew z p v text
 
 -- the sight that came last
 abbrev pub last_sight : List Sight → Sight

@@ -1,5 +1,5 @@
 //! What the law gives a caller.
-ghost use Rattle.std.specs.Prelude.{◌≡◌, ◌≢◌, ℕ, ◌<◌, ◌≤◌, false, true, List, [], length, None};
+ghost use Rattle.std.specs.Prelude.{◌≡◌, ◌≢◌, ℕ, ◌<◌, ◌≤◌, false, true, List, [], length, sum, None};
 ghost use Rattle.plain_protocol.specs.plain_state.declared.slot.SlotId.{SlotId};
 ghost use Rattle.plain_protocol.specs.plain_state.declared.slot.Stage.TheVariants.{Live};
 ghost use Rattle.plain_protocol.specs.plain_state.Fits.{AllFit};
@@ -12,9 +12,9 @@ ghost use Rattle.plain_protocol.specs.Owns.{is_alone, own_part};
 ghost use Rattle.directory_law.specs.Cells.{Area, on};
 ghost use Rattle.directory_law.specs.Bytes.{IsPiece, text_bytes};
 ghost use Rattle.directory_law.specs.Payloads.{IsHead, Text};
-ghost use Rattle.directory_law.specs.Views.{In};
-ghost use Rattle.cell_law.specs.Views.{AreDistinct, BoundIn, IsOpen, Sight, View, all_bound, texts_of, view_at, words_of};
-ghost use Rattle.cell_law.specs.Cells.{Stands, cell};
+ghost use Rattle.directory_law.specs.Views.{In, rope};
+ghost use Rattle.cell_law.specs.Views.{AreDistinct, BoundIn, IsOpen, MayBind, Sight, View, all_bound, texts_of, view_at, words_of};
+ghost use Rattle.cell_law.specs.Cells.{BindsAlone, HasRoom, Stands, cell};
 ghost use Rattle.cell_law.specs.Law.{CellLaw};
 ghost use Rattle.cell_law.specs.Walks.{HasAll, Walked};
 ghost use Rattle.cell_law.specs.Promises.{CellsAreBound, HeldByCells, IsAbsent, IsOwnedBehind, IsSettled, KeepsText, KnowsAll, SeenRecord, owned_times};
@@ -64,6 +64,23 @@ pub fn null_cell_means_absent()
         → Meets (CellLaw z) p views → IsSeat p n → (view_at views n).cleared ≡ false
         → Walked z (own_part p n) (view_at views n) text m → cell z p (on z text m) ≡ None
         → IsAbsent z p views text }
+{}
+
+/// No more heads are listed than were granted, and fewer where a seat may put one more into a cell. So some cell is
+/// null then, where not more was granted than there are cells. Where all was granted to one seat, it has bound itself
+/// what any view lists.
+pub fn grants_bound_heads()
+    ensures few { (z : Area) (p : Plain) (views : List View) → CellLaw z p views
+        → length (all_bound views) ≤ sum z.interns }
+    ensures fewer { (z : Area) (p : Plain) (views : List View) → CellLaw z p views
+        → (n : ℕ) → n < length views → MayBind (view_at views n)
+        → length (all_bound views) < sum z.interns }
+    ensures room { (z : Area) (p : Plain) (views : List View) → CellLaw z p views
+        → (n : ℕ) → n < length views → HasRoom z p (view_at views n) }
+    ensures alone { (z : Area) (p : Plain) (views : List View) → CellLaw z p views
+        → (n : ℕ) → n < length views → BindsAlone z (view_at views n)
+        → (s : SlotId) (l : ℕ) (text : Text) → BoundIn views s l text
+        → In (rope s l text) (view_at views n).bound }
 {}
 
 /// No field holds a head: the references to it are those that seats own, those that are deferred, and that of its cell.

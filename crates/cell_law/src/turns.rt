@@ -13,7 +13,7 @@ ghost use Rattle.directory_law.specs.Making.{alone};
 ghost use Rattle.directory_law.specs.Payloads.{IsPart, IsText, Text};
 ghost use Rattle.directory_law.specs.Steps.{LooksAt, id, life_in, payload_in};
 ghost use Rattle.directory_law.specs.Views.{In};
-ghost use Rattle.cell_law.specs.Views.{IsWord, Sight, View};
+ghost use Rattle.cell_law.specs.Views.{IsWord, MayBind, Sight, View};
 ghost use Rattle.cell_law.specs.Lessons.{FindReady, ReadReady, look_next, read_next};
 ghost use Rattle.cell_law.specs.Making.{BindReady, LinkReady, Links, link_next, make_next, sees};
 ghost use Rattle.cell_law.specs.Walks.{HasAll, KeepsSeen, Passes, SawAll, Walked, last_sight, payloads};
@@ -35,7 +35,8 @@ pub fn walks_go_on()
 
 /// The deeds that make a record follow one another. Where a part was made and then a slot, the slot can be linked to
 /// the part. A head that was made alone, or linked to its part, can be bound in the cell to which its text's walk has
-/// come; and again in a further one where the exchange found another head.
+/// come, where the seat may put one head more into a cell; and again in a further one where the exchange found another
+/// head.
 pub fn records_are_made_in_turn()
     ensures links { (v : View) (r s : SlotId) (first second third fourth own : OwnPart)
         (step : PlainAct) → alone second r ≡ alone own r → alone fourth s ≡ alone own s
@@ -44,7 +45,7 @@ pub fn records_are_made_in_turn()
         → let w = make_next first second v (act.Make r) 0 in
         LinkReady own (make_next third fourth w (act.Make s) 0) step }
     ensures binds_one { (z : Area) (v : View) (s : SlotId) (first second own : OwnPart) (m : ℕ)
-        → alone second s ≡ alone own s → 0 < z.cells → v.cleared ≡ false
+        → alone second s ≡ alone own s → 0 < z.cells → v.cleared ≡ false → MayBind v
         → 0 < times s own.seat.owned → let text = payload_in own s ∷ [] in
         IsWord text → let w = make_next first second v (act.Make s) 0 in
         Walked z own w text m
@@ -52,7 +53,7 @@ pub fn records_are_made_in_turn()
     ensures binds_two { (z : Area) (v : View) (r s : SlotId) (own after later : OwnPart)
         (step : PlainAct) (es : List Rope) (m : ℕ)
         → v.noted ≡ alone own s ∷ alone own r ∷ es → life_in later s ≡ life_in own s
-        → 0 < z.cells → v.cleared ≡ false → 0 < times s later.seat.owned
+        → 0 < z.cells → v.cleared ≡ false → MayBind v → 0 < times s later.seat.owned
         → let text = payload_in own s ∷ payload_in own r ∷ [] in
         IsWord text → let w = link_next own after v step 0 in
         Walked z later w text m

@@ -16,6 +16,8 @@ pub struct Sight {
 /// What a seat knows and did.
 #[derive(Drop)]
 pub struct View {
+    /// How many heads it may put into cells in all.
+    pub grant: u64,
     /// The slots that it made and that stand nowhere, in no cell and in no field 1, the last one first.
     pub noted: LinkedList<Rope>,
     /// The heads that it put into cells, with their texts, the last one first.

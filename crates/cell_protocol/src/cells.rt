@@ -13,13 +13,13 @@ use plain_protocol::Deed;
 pub struct LookCell;
 
 impl Deed<CellLaw> for LookCell {
-    ghost ready = { λ it of. LookReady (range of.first of.cells) };
+    ghost ready = { λ it of. LookReady (range of.first of.cells of.grants.items) };
 
-    ghost next = { λ it of. look_next (range of.first of.cells) };
+    ghost next = { λ it of. look_next (range of.first of.cells of.grants.items) };
 
-    ghost allows = { λ it of. LookTells (range of.first of.cells) };
+    ghost allows = { λ it of. LookTells (range of.first of.cells of.grants.items) };
 
-    ghost keeps = { λ it of. look_keeps (range of.first of.cells) };
+    ghost keeps = { λ it of. look_keeps (range of.first of.cells of.grants.items) };
 }
 
 /// Field 1 of the slot that was seen last: the part that it holds is seen behind that one, until cells are cleared.
@@ -31,9 +31,9 @@ impl Deed<CellLaw> for ReadPart {
 
     ghost next = { λ it of. read_next };
 
-    ghost allows = { λ it of. ReadTells (range of.first of.cells) };
+    ghost allows = { λ it of. ReadTells (range of.first of.cells of.grants.items) };
 
-    ghost keeps = { λ it of. read_keeps (range of.first of.cells) };
+    ghost keeps = { λ it of. read_keeps (range of.first of.cells of.grants.items) };
 }
 
 /// A calm step, at which the seat has the slots that it saw last and their payloads are a whole text: the view notes
@@ -46,9 +46,9 @@ impl Deed<CellLaw> for FindText {
 
     ghost next = { λ it of. find_next };
 
-    ghost allows = { λ it of. FindTells (range of.first of.cells) };
+    ghost allows = { λ it of. FindTells (range of.first of.cells of.grants.items) };
 
-    ghost keeps = { λ it of. find_keeps (range of.first of.cells) };
+    ghost keeps = { λ it of. find_keeps (range of.first of.cells of.grants.items) };
 }
 
 /// Seat 0, when it is alone, puts null into a cell. No record can be bound from then on.
@@ -56,11 +56,11 @@ impl Deed<CellLaw> for FindText {
 pub struct ClearCell;
 
 impl Deed<CellLaw> for ClearCell {
-    ghost ready = { λ it of. ClearReady (range of.first of.cells) };
+    ghost ready = { λ it of. ClearReady (range of.first of.cells of.grants.items) };
 
     ghost next = { λ it of. clear_next };
 
-    ghost allows = { λ it of. ClearTells (range of.first of.cells) };
+    ghost allows = { λ it of. ClearTells (range of.first of.cells of.grants.items) };
 
-    ghost keeps = { λ it of. clear_keeps (range of.first of.cells) };
+    ghost keeps = { λ it of. clear_keeps (range of.first of.cells of.grants.items) };
 }

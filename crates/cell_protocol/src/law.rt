@@ -13,20 +13,28 @@ use directory_protocol::RecordKind;
 use plain_protocol::Protocol;
 
 /// The law of records in a range of strong cells, over a domain that has no other client.
-#[derive(Clone, Copy, Debug, Drop)]
+#[derive(Debug, Drop)]
 pub struct CellLaw {
     /// The first cell of the range.
     pub first: u32,
     /// How many they are.
     pub cells: u32,
+    /// How many heads each seat may put there, by the seat's number. A seat that has no number here may put none.
+    pub grants: Vec<u64>,
 }
 
 impl CellLaw {
-    /// The cells `first .. first + cells` hold the records. It takes no step.
-    pub fn over(first: u32, cells: u32) -> CellLaw
-        ensures { (result.first ≡ first) × (result.cells ≡ cells) }
+    /// The cells `first .. first + cells` hold the records, and seat n may put so many there as stand at its place in
+    /// `grants`. It takes no step.
+    pub fn over(first: u32, cells: u32, grants: Vec<u64>) -> CellLaw
+        ensures { (result.first ≡ first) × (result.cells ≡ cells)
+            × (result.grants ≡ grants) }
     {
-        CellLaw { first, cells }
+        CellLaw {
+            first,
+            cells,
+            grants,
+        }
     }
 }
 
@@ -35,9 +43,9 @@ impl Protocol for CellLaw {
 
     type Kind = RecordKind;
 
-    ghost first = { λ it. first_view };
+    ghost first = { λ it. first_view (range it.first it.cells it.grants.items) };
 
-    ghost law = { λ it. Law (range it.first it.cells) };
+    ghost law = { λ it. Law (range it.first it.cells it.grants.items) };
 
     ghost joined = { λ it. joined };
 
@@ -51,11 +59,11 @@ impl Protocol for CellLaw {
 
     ghost owns_tickets = { λ it. ⊥ };
 
-    ghost start = { λ it. starts_law (range it.first it.cells) };
+    ghost start = { λ it. starts_law (range it.first it.cells it.grants.items) };
 
-    ghost calm = { λ it. calm_keeps (range it.first it.cells) };
+    ghost calm = { λ it. calm_keeps (range it.first it.cells it.grants.items) };
 
-    ghost leave = { λ it. leave_keeps (range it.first it.cells) };
+    ghost leave = { λ it. leave_keeps (range it.first it.cells it.grants.items) };
 
-    ghost foreign = { λ it. foreign_keeps (range it.first it.cells) };
+    ghost foreign = { λ it. foreign_keeps (range it.first it.cells it.grants.items) };
 }

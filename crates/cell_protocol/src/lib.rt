@@ -9,7 +9,7 @@
 //! Nothing here runs, and no step is promised to come. A deed doesn't say that the step that it goes with succeeds.
 //!
 //! ```text
-//! let records = CellLaw::over(0, 1_000);     // the cells 0 to 999 of a domain that has no other client
+//! let records = CellLaw::over(0, 1_000, grants);     // the cells 0 to 999 of a domain that has no other client
 //! ```
 #![tactic(auto)]
 

@@ -17,9 +17,9 @@ impl Deed<CellLaw> for MakePiece {
 
     ghost next = { λ it of. make_next };
 
-    ghost allows = { λ it of. MakeTells (range of.first of.cells) };
+    ghost allows = { λ it of. MakeTells (range of.first of.cells of.grants.items) };
 
-    ghost keeps = { λ it of. make_keeps (range of.first of.cells) };
+    ghost keeps = { λ it of. make_keeps (range of.first of.cells of.grants.items) };
 }
 
 /// Field 1 of the slot that was made last gets the part that was noted before it, and takes over its note. No other
@@ -32,9 +32,9 @@ impl Deed<CellLaw> for LinkPart {
 
     ghost next = { λ it of. link_next };
 
-    ghost allows = { λ it of. LinkTells (range of.first of.cells) };
+    ghost allows = { λ it of. LinkTells (range of.first of.cells of.grants.items) };
 
-    ghost keeps = { λ it of. link_keeps (range of.first of.cells) };
+    ghost keeps = { λ it of. link_keeps (range of.first of.cells of.grants.items) };
 }
 
 /// The first null cell on the walk of a text gets the head that was noted last, where it is still null: the view lists
@@ -44,11 +44,11 @@ impl Deed<CellLaw> for LinkPart {
 pub struct BindCell;
 
 impl Deed<CellLaw> for BindCell {
-    ghost ready = { λ it of. BindReady (range of.first of.cells) };
+    ghost ready = { λ it of. BindReady (range of.first of.cells of.grants.items) };
 
-    ghost next = { λ it of. bind_next (range of.first of.cells) };
+    ghost next = { λ it of. bind_next (range of.first of.cells of.grants.items) };
 
-    ghost allows = { λ it of. BindTells (range of.first of.cells) };
+    ghost allows = { λ it of. BindTells (range of.first of.cells of.grants.items) };
 
-    ghost keeps = { λ it of. bind_keeps (range of.first of.cells) };
+    ghost keeps = { λ it of. bind_keeps (range of.first of.cells of.grants.items) };
 }
