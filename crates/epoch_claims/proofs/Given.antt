@@ -54,6 +54,15 @@ module _ (z : EpochShape) (qs : List Quota) (shape : IsShape z) (quotas : AreQuo
         let most = total_most (λ v. v.makes) quota_of c.views each_most in
         let given = quotas_stay es c h in omega arith
 
+    -- they are fewer by what any seat has left
+    pub makes_less : (n : ℕ) → n < z.seats
+        → makes_used c + (view_at c n).quota.makes ≤ makes_given qs + (view_at c n).makes
+    makes_less n hn =
+        let so = history_sound z qs es c shape quotas h in
+        let views = so.views in
+        let gap = total_gap (λ v. v.makes) quota_of c.views n each_most (omega arith) in
+        let given = quotas_stay es c h in omega arith
+
     -- where a seat has one left they are fewer
     pub makes_spare : (n : ℕ) → n < z.seats → HasMake (view_at c n) → makes_used c < makes_given qs
     makes_spare n hn left =

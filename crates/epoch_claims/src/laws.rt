@@ -1,5 +1,5 @@
 //! Laws about claims and makes, of every state that has a history.
-ghost use Rattle.std.specs.Prelude.{ℕ, ◌≡◌, ◌<◌, ◌≤◌, List, length};
+ghost use Rattle.std.specs.Prelude.{ℕ, ◌≡◌, ◌+◌, ◌<◌, ◌≤◌, List, length};
 ghost use Rattle.core_law.specs.core_events.declared.shape.Quota.{Quota};
 ghost use Rattle.core_law.specs.plain_state.declared.slot.SlotId.{SlotId};
 ghost use Rattle.epoch_core.specs.declared.act.EpochEvent.{EpochEvent};
@@ -40,4 +40,13 @@ pub fn taken_slots_were_made()
         → IsShape z → AreQuotas z qs → History z qs es c → n < z.seats → HasMake (view_at c n)
         → ((s : SlotId) → s.0 < z.slots → ShowsTaken s (view_at c n).trail)
         → z.slots < makes_given qs }
+{}
+
+/// Where the trail of a seat shows each slot taken, there are no more slots than the makes that this seat has used and
+/// those that all other seats were given.
+pub fn taken_slots_fit_makes()
+    ensures { (z : EpochShape) (qs : List Quota) (es : List EpochEvent) (c : Core) (n : ℕ)
+        → IsShape z → AreQuotas z qs → History z qs es c → n < z.seats
+        → ((s : SlotId) → s.0 < z.slots → ShowsTaken s (view_at c n).trail)
+        → z.slots + (view_at c n).quota.makes ≤ makes_given qs + (view_at c n).makes }
 {}

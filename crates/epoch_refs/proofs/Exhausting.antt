@@ -2,7 +2,7 @@
 use Rattle.std.proofs.Common.{◌≡◌, inl, inr, ⊎_elim, ℕ, ◌<◌, List, [], ◌∷◌, ◌++◌, length, refl, ap, sym, ◌∙◌, subst, arith}
 use Rattle.epoch_domain.proofs.Below.core_law_Kit.{one_other, slot_cases, times_cons, times_none}
 use Rattle.epoch_domain.specs.epoch_core.core_events.declared.shape.Quota.{Quota}
-use Rattle.epoch_claims.proofs.Taken.{taken_slots_were_made}
+use Rattle.epoch_claims.proofs.Taken.{taken_slots_fit_makes, taken_slots_were_made}
 use Rattle.epoch_claims.specs.Claims.{ShowsTaken, makes_given}
 use Rattle.epoch_domain.proofs.Below.epoch_core_Keeps.{history_sound}
 use Rattle.epoch_domain.specs.plain_protocol.plain_state.declared.slot.SlotId.{SlotId}
@@ -15,6 +15,7 @@ use Rattle.epoch_domain.specs.epoch_core.Runs.{AreQuotas, Core, History, IsShape
 use Rattle.epoch_domain.specs.epoch_core.Steps.{HasMake}
 use Rattle.epoch_domain.specs.Domains.{DomainState}
 use Rattle.epoch_domain.specs.Seats.{SeatState}
+use Rattle.epoch_refs.specs.Making.{SlotsFitMakes}
 use Rattle.epoch_refs.specs.Searching.{IsFull, Try, taken_by, tried}
 use Rattle.epoch_refs.specs.Walks.{Walks}
 
@@ -68,19 +69,37 @@ tries_show s (t ∷ ts) some' = ⊎_elim
     (slot_cases t.slot s)
 
 module _ {P V : Type 0} (fits : List ℕ → Type 0) (d : DomainState P) (old new : SeatState V)
-    (some' : 0 < d.shape.slots) (left : HasMake old.view.core) (full : IsFull fits d old new) where
-  pub more_makes : d.shape.slots < makes_given d.quotas
-  more_makes =
+    (some' : 0 < d.shape.slots) (full : IsFull fits d old new) where
+  -- the seat stands in a state whose history its trail shows, and this shows each slot taken
+  full_stood : Stood d.shape d.quotas new.view.core
+  full_stood =
       go full.misses.tries (let few = full.few in omega arith) full.misses.goes.walks
     where
       go : (ts : List Try) → 0 < length ts → Walks fits d (taken_by ts) old new
-          → d.shape.slots < makes_given d.quotas
+          → Stood d.shape d.quotas new.view.core
       go [] none walks = absurd (omega arith)
-      go (t ∷ ts) any walks =
-          let stood = walk_stood fits d _ (taken_by ts) old new walks in
-          let is = sym stood.view ∙ full.misses.goes.core in
-          taken_slots_were_made d.shape d.quotas stood.events stood.core stood.seat stood.shape
-          stood.quotas stood.history stood.there (subst HasMake (sym is) left)
-          (λ s hs. subst (λ (v : EpochView). ShowsTaken s v.trail) (sym is)
-          (shown_after s old.view.core.trail (taken_by full.misses.tries)
-          (tries_show s full.misses.tries (let once = full.each s hs in omega arith))))
+      go (t ∷ ts) any walks = walk_stood fits d _ (taken_by ts) old new walks
+
+  full_is : view_at full_stood.core full_stood.seat
+      ≡ record old.view.core { trail = old.view.core.trail ++ taken_by full.misses.tries }
+  full_is = sym full_stood.view ∙ full.misses.goes.core
+
+  full_shown : (s : SlotId) → s.0 < d.shape.slots
+      → ShowsTaken s (view_at full_stood.core full_stood.seat).trail
+  full_shown s hs =
+      subst (λ (v : EpochView). ShowsTaken s v.trail) (sym full_is)
+      (shown_after s old.view.core.trail (taken_by full.misses.tries)
+      (tries_show s full.misses.tries (let once = full.each s hs in omega arith)))
+
+  pub more_makes : HasMake old.view.core → d.shape.slots < makes_given d.quotas
+  more_makes left =
+      let stood = full_stood in
+      taken_slots_were_made d.shape d.quotas stood.events stood.core stood.seat stood.shape
+      stood.quotas stood.history stood.there (subst HasMake (sym full_is) left) full_shown
+
+  pub slots_fit : SlotsFitMakes d new.view.core
+  slots_fit =
+      let stood = full_stood in
+      subst (λ (v : EpochView). SlotsFitMakes d v) (sym stood.view)
+      (taken_slots_fit_makes d.shape d.quotas stood.events stood.core stood.seat stood.shape
+      stood.quotas stood.history stood.there full_shown)

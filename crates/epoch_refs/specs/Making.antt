@@ -1,5 +1,5 @@
 -- How an object is made: a slot is claimed, filled word by word, and started.
-use Rattle.std.specs.Prelude.{ℕ, ◌≡◌, ◌≢◌, ◌+◌, ◌<◌, List, [], ◌∷◌, ◌++◌, length, slice_index}
+use Rattle.std.specs.Prelude.{ℕ, ◌≡◌, ◌≢◌, ◌+◌, ◌<◌, ◌≤◌, List, [], ◌∷◌, ◌++◌, length, slice_index}
 use Rattle.epoch_domain.specs.plain_protocol.plain_state.Limits.{words_of_payload}
 use Rattle.epoch_domain.specs.plain_protocol.plain_state.declared.act.PlainAct.{PlainAct}
 use Rattle.epoch_domain.specs.plain_protocol.plain_state.declared.slot.SlotId.{SlotId}
@@ -12,6 +12,7 @@ use Rattle.epoch_domain.specs.epoch_core.declared.view.EpochMove.{EpochMove}
 use Rattle.epoch_domain.specs.epoch_core.declared.view.EpochView.{EpochView}
 use Rattle.epoch_domain.specs.epoch_core.Shows.{show_seat, shows}
 use Rattle.epoch_domain.specs.epoch_rule.Views.{object_in}
+use Rattle.epoch_claims.specs.Claims.{makes_given}
 use Rattle.epoch_domain.specs.Calls.{IsReady, Steps}
 use Rattle.epoch_domain.specs.Domains.{DomainState}
 use Rattle.epoch_domain.specs.Seats.{SeatState}
@@ -21,6 +22,10 @@ use Rattle.epoch_refs.specs.Walks.{Walks, move}
 -- the seat has used all makes of its quota
 abbrev pub HasNoMake : EpochView → Type 0
 HasNoMake v = v.makes ≡ v.quota.makes
+
+-- there are no more slots than the makes that this seat has used and those that all other seats were given
+abbrev pub SlotsFitMakes : {P : Type 0} → DomainState P → EpochView → Type 0
+SlotsFitMakes d v = d.shape.slots + v.quota.makes ≤ makes_given d.quotas + v.makes
 
 -- what a seat has, but for its trail, once it has made an object in s
 abbrev pub with_made : SlotId → EpochView → EpochView

@@ -7,7 +7,7 @@ ghost use Rattle.epoch_domain.specs.epoch_core.declared.view.EpochPhase.TheVaria
 ghost use Rattle.epoch_claims.specs.Claims.{makes_given};
 ghost use Rattle.slot_store.specs.declared.making.MakeError.TheVariants as refused;
 ghost use Rattle.epoch_refs.specs.Calls.{IsSpent};
-ghost use Rattle.epoch_refs.specs.Making.{Fills, HasNoMake, IsReadyToMake, Makes};
+ghost use Rattle.epoch_refs.specs.Making.{Fills, HasNoMake, IsReadyToMake, Makes, SlotsFitMakes};
 ghost use Rattle.epoch_refs.specs.Searching.{IsFull};
 ghost use Rattle.epoch_refs.specs.Walks.{IsAtRest};
 
@@ -16,11 +16,12 @@ use control_word::Strong;
 use epoch_domain::{Deed, EpochDomain, EpochSeat, Protocol, SlotId};
 use slot_store::MakeError;
 
-/// Makes an object with this payload in a free slot, with one reference, which is the seat's. `MakesSpent` comes
-/// first, exactly where the seat has no make left of its quota, then `AddsSpent`, exactly where it has no add left;
-/// nothing has changed then. `Full` comes exactly where each claim of the call found its slot taken, and these were
-/// all slots of the domain. It never comes where the makes of all quotas are at most the slots. At most 17 events
-/// more than there are slots.
+/// Makes an object with this payload in a free slot, with one reference, which is the seat's. `MakesSpent` comes first,
+/// exactly where the seat has no make left of its quota, then `AddsSpent`, exactly where it has no add left; nothing
+/// has changed then. `Full` comes exactly where each claim of the call found its slot taken, and these were all slots
+/// of the domain. It never comes where the makes of all quotas are at most the slots, nor where there are more slots
+/// than the makes that this seat has used and those that all other seats were given. At most 17 events more than there
+/// are slots.
 pub fn e_make<P: Protocol, D: Deed<P>>(
     domain: &EpochDomain<P>,
     seat: &mut EpochSeat<P>,
@@ -40,6 +41,8 @@ pub fn e_make<P: Protocol, D: Deed<P>>(
         → IsFull P.Kind.fits domain.now seat.old seat.new }
     ensures full_only { result ≡ Err refused.Full
         → domain.now.shape.slots < makes_given domain.now.quotas }
+    ensures full_by { result ≡ Err refused.Full
+        → SlotsFitMakes domain.now seat.new.view.core }
     ensures made { IfOk result (λ strong. Makes P.Kind.fits domain.now
         (D.next deed domain.now.protocol) (D.allows deed domain.now.protocol) payload.now
         strong.slot seat.old seat.new) }

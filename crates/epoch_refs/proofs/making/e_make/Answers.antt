@@ -2,7 +2,7 @@ use Rattle.std.proofs.Common.{◌<◌, arith, sym, subst}
 use Rattle.epoch_domain.specs.plain_protocol.plain_state.declared.slot.SlotId.{SlotId}
 use Rattle.epoch_domain.specs.plain_protocol.plain_state.Lists.{times}
 use Rattle.epoch_refs.specs.Making.{Makes}
-use Rattle.epoch_refs.proofs.Exhausting.{more_makes}
+use Rattle.epoch_refs.proofs.Exhausting.{more_makes, slots_fit}
 use Rattle.epoch_refs.proofs.Searching.{misses_rest}
 use Rattle.epoch_refs.proofs.Starting.{apart, begins, full, is_of_claimed, is_of_filled, makes, owns_it, rests_again, still_known}
 use Rattle.epoch_refs.proofs.making.e_make.Goals as goal
@@ -19,8 +19,15 @@ returns-in_default-clause-full_only g c = λ is.
     let inside = all.inside in
     let left = c.makes_left.ensures in
     let some' = c.if-makes_left-eq0.false in
-    more_makes _ c.args.domain.now c.args.seat.now c.claim_any.new.seat (omega arith)
-    (grind arith) all
+    more_makes _ c.args.domain.now c.args.seat.now c.claim_any.new.seat (omega arith) all
+    (grind arith)
+
+pub returns-in_default-clause-full_by : goal.returns-in_default-clause-full_by
+returns-in_default-clause-full_by g c = λ is.
+    let all = full _ c.args.domain.now c.args.seat.now c.claim_any.new.seat
+    (rw c.in_default.is at c.claim_any.ensures) in
+    let inside = all.inside in
+    slots_fit _ c.args.domain.now c.args.seat.now c.claim_any.new.seat (omega arith) all
 
 pub returns-in_default-clause-rest : goal.returns-in_default-clause-rest
 returns-in_default-clause-rest g c =

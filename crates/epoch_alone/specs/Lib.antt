@@ -1,0 +1,8 @@
+-- What callers cite of the crates below.
+pub use Rattle.epoch_refs.specs as epoch_refs
+pub use Rattle.epoch_settling.specs as epoch_settling
+pub use Rattle.law_lesson.specs as law_lesson
+-- Its own.
+pub mod Lone
+pub mod Cells
+pub mod Settled
