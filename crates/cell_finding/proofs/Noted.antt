@@ -3,7 +3,7 @@ use Rattle.std.proofs.Common.{◌≡◌, inl, inr, ℕ, List, ◌∷◌, refl, s
 use Rattle.std.specs.Prelude.{Option}
 use Rattle.cell_calls.specs.Cells.{area_of}
 use Rattle.cell_calls.specs.Keeping.{Learns}
-use Rattle.cell_calls.specs.cell_law.Lessons.{FindReady, FindTells, find_next, found_rope}
+use Rattle.cell_calls.specs.cell_law.Lessons.{FindReady, FindTells, Finds, find_next, found_rope}
 use Rattle.cell_law.specs.declared.view.View.{View}
 use Rattle.cell_calls.specs.cell_law.Walks.{payloads}
 use Rattle.cell_calls.specs.cell_law.directory_law.Cells.{Area}
@@ -25,11 +25,11 @@ use Rattle.epoch_domain.specs.Domains.{DomainState}
 use Rattle.epoch_domain.specs.Seats.{SeatState}
 use Rattle.epoch_domain.proofs.Below.epoch_rule_Others.{held_has}
 use Rattle.cell_finding.specs.Comparing.{IsWhole, sighted}
-use Rattle.cell_finding.specs.Finding.{IsFound, IsRecordIn}
+use Rattle.cell_finding.specs.Finding.{IsFound, IsOwnIfAlone, IsRecordIn}
 use Rattle.cell_finding.specs.Looking.{HasSeen, OnlyLooks}
 use Rattle.cell_finding.proofs.Along.{has_along, sees_first}
 use Rattle.cell_finding.proofs.Looks.{look_few, look_keeps, looks_sees, seen_holds, seen_object}
-use Rattle.cell_finding.proofs.Shown.{at_step}
+use Rattle.cell_finding.proofs.Shown.{at_step, state}
 
 -- where all slots of a text were seen, it can be noted as found
 pub find_ready : (text : Text) (head : SlotId) (a : SeatState View) → IsWhole text head a → IsText text
@@ -79,11 +79,22 @@ module _ (fits : List ℕ → Type 0) (d : DomainState CellLaw) (head : SlotId) 
         ap (λ (v : View). v.found) step.told.client
         ∙ ap (λ (e : Rope). e ∷ old.view.client.found) entry_is
 
+    tells : Finds z (state fits d find_next (FindTells z) (Field head 1) x old new step)
+        old.view.client entry
+    tells = step.told.happened.fact.2 entry found_is
+
     pub is_found : IsFound d text head old new
     is_found = record {
       noted = subst (λ (es : List Rope). In entry es) (sym found_is) (inl refl);
       seen = looks_sees 1 old new found_looks head seen_head;
       stood = at_step fits d find_next (FindTells z) (Field head 1) x old new step
           (IsRecordIn z text head (object_in new.view head).life)
-          (step.told.happened.fact.2 entry found_is);
+          (tells.is, tells.life);
     }
+
+    -- where no other seat may put a head into a cell, the seat has put it there
+    pub is_own : IsOwnIfAlone d text head new
+    is_own alone =
+        let bound = ap (λ (v : View). v.bound) step.told.client in
+        let grant = ap (λ (v : View). v.grant) step.told.client in
+        subst (λ (es : List Rope). In entry es) (sym bound) (tells.own (sym grant ∙ alone))

@@ -1,20 +1,23 @@
--- What a look at a cell shows.
-use Rattle.std.proofs.Common.{◌≡◌, ◌≢◌, inl, inr, ℕ, zero, suc, ◌+◌, ◌-◌, ◌<◌, List, [], ◌∷◌, refl, sym, ap, subst, ◌∙◌, arith}
+-- What a look at a cell shows, and what it tells of a walk that has come there, or around.
+use Rattle.std.proofs.Common.{◌≡◌, ◌≢◌, inl, inr, ℕ, zero, suc, ◌+◌, ◌-◌, ◌<◌, List, [], ◌∷◌, ◌++◌, length, refl, sym, ap, subst, ◌∙◌, arith}
 use Rattle.std.specs.Prelude.{false, Option, Some, None, IfSome, IsNone}
 use Rattle.cell_calls.specs.Cells.{IsOver, area_of}
 use Rattle.cell_calls.specs.Keeping.{Learns}
-use Rattle.cell_calls.specs.cell_law.Cells.{cell}
+use Rattle.cell_calls.specs.cell_law.Cells.{IsNew, NoRecord, cell}
 use Rattle.cell_calls.specs.cell_law.Lessons.{LookReady, LookTells, first_of, look_next}
-use Rattle.cell_calls.specs.cell_law.Making.{sees, sight}
+use Rattle.cell_calls.specs.cell_law.Making.{sees}
+use Rattle.cell_calls.specs.cell_law.Views.{TellsNone, bound_in, sight}
 use Rattle.cell_law.specs.declared.view.Sight.{Sight}
 use Rattle.cell_law.specs.declared.view.View.{View}
-use Rattle.cell_calls.specs.cell_law.Walks.{Walked, last_of, last_sight}
+use Rattle.cell_calls.specs.cell_law.Walks.{Walked, last_of, last_sight, payloads}
 use Rattle.cell_calls.specs.cell_law.directory_law.Cells.{Area, on}
 use Rattle.cell_calls.specs.cell_law.directory_law.Payloads.{Text}
-use Rattle.cell_calls.specs.cell_law.directory_law.Views.{Each}
+use Rattle.cell_calls.specs.cell_law.directory_law.Views.{Each, In}
+use Rattle.directory_law.specs.declared.view.Rope.{Rope}
 use Rattle.cell_calls.specs.cell_protocol.declared.law.CellLaw.{CellLaw}
 use Rattle.cell_law.proofs.InTurn.{walk_stays}
 use Rattle.directory_law.proofs.Kit.{false≢true}
+use Rattle.directory_law.proofs.Walks.{covers}
 use Rattle.epoch_domain.specs.plain_protocol.plain_state.declared.act.EventPlace.TheVariants.{Cell}
 use Rattle.epoch_domain.specs.plain_protocol.plain_state.declared.act.PlainAct.TheVariants as plain
 use Rattle.epoch_domain.specs.plain_protocol.plain_state.declared.slot.SlotId.{SlotId}
@@ -29,11 +32,12 @@ use Rattle.epoch_domain.specs.Calls.{Steps}
 use Rattle.epoch_domain.specs.Domains.{DomainState}
 use Rattle.epoch_domain.specs.Seats.{SeatState}
 use Rattle.cell_finding.specs.Comparing.{IsAlong, sighted}
-use Rattle.cell_finding.specs.Finding.{IsNullOn, IsOnWalk}
-use Rattle.cell_finding.specs.Looking.{AtStep, HasSeen, OnlyLooks}
+use Rattle.cell_finding.specs.Finding.{ComesToNull, GoesAround, IsNullOn, IsOnWalk}
+use Rattle.cell_finding.specs.Looking.{HasSeen, OnlyLooks}
 use Rattle.cell_finding.proofs.Looks.{look_few, look_keeps, look_sees}
 use Rattle.cell_finding.proofs.Past.{past_walked}
-use Rattle.cell_finding.proofs.Shown.{at_step, cell_shows, objects_told, slot_is, state, word_is, word_some}
+use Rattle.cell_finding.proofs.Shown.{at_step, cell_shows, objects_told, slot_is, state, word_is, word_null, word_some}
+use Rattle.cell_finding.proofs.Walking.{walk_still}
 
 -- a look at a cell of the range is ready
 pub look_ready : (law : CellLaw) (own : OwnPart) (v : View) (i : ℕ) → law.first ≡ 0
@@ -47,6 +51,12 @@ look_ready law own v i first low = record {
 sees_learns : (c w : ℕ) (v : View) → Learns v (sees c w v)
 sees_learns c zero v = record { saw = λ e i. i; found = λ e i. i; rest = refl }
 sees_learns c (suc s) v = record { saw = λ e i. inr i; found = λ e i. i; rest = refl }
+
+-- it leaves all else
+sees_lists : (c w : ℕ) (v : View) → ((sees c w v).found ≡ v.found) × ((sees c w v).bound ≡ v.bound)
+    × ((sees c w v).joined ≡ v.joined) × ((sees c w v).grant ≡ v.grant)
+sees_lists c zero v = (refl, refl, refl, refl)
+sees_lists c (suc s) v = (refl, refl, refl, refl)
 
 -- how a sight that is the last one is along a record
 pub along_by : (head last : SlotId) (seat : SeatState View) (e : Sight) (es : List Sight)
@@ -111,11 +121,81 @@ module _ (fits : List ℕ → Type 0) (d : DomainState CellLaw) (i : ℕ) (x : O
       ap (λ (es : List Sight). (last_sight es).slots) seen_is,
     )
 
+  abbrev p : Plain
+  p = state fits d (look_next z) (LookTells z) (Cell i) x old new step
+
+  tells : LookTells z p p old.view.core.seat old.view.client new.view.client
+  tells = step.told.happened.fact.2
+
+  -- a look leaves what the view found, and what it lists
+  same_lists : (new.view.client.found ≡ old.view.client.found)
+      × (new.view.client.bound ≡ old.view.client.bound)
+      × (new.view.client.joined ≡ old.view.client.joined)
+      × (new.view.client.grant ≡ old.view.client.grant)
+  same_lists =
+      let same = sees_lists (i - d.protocol.first) step.word old.view.client in (
+        ap (λ (v : View). v.found) step.told.client ∙ same.0,
+        ap (λ (v : View). v.bound) step.told.client ∙ same.1,
+        ap (λ (v : View). v.joined) step.told.client ∙ same.2,
+        ap (λ (v : View). v.grant) step.told.client ∙ same.3,
+      )
+
+  untold_then : (text : Text) → TellsNone old.view.client text → TellsNone new.view.client text
+  untold_then text none e i =
+      none e (subst (λ (fs : List Rope). In e (fs ++ bound_in old.view.client)) same_lists.0
+      (subst (λ (bs : List Rope). In e (new.view.client.found ++ bs))
+      (ap (λ (bs : List Rope). bs ++ new.view.client.joined) same_lists.1
+      ∙ ap (λ (js : List Rope). old.view.client.bound ++ js) same_lists.2) i))
+
+  -- what the walk has passed it has passed by that state
+  walked_there : (text : Text) (passed : ℕ) → IsOnWalk d text passed old
+      → Walked z (own_part p old.view.core.seat) old.view.client text passed
+  walked_there text passed walk =
+      walk_stays z (own_of old.view) (own_part p old.view.core.seat) old.view.client
+      old.view.client text passed (past_walked d text passed old walk.walked) (λ e was. was)
+      (λ e s was in_slots some. objects_told fits d (look_next z) (LookTells z) (Cell i) x old new step s)
+
+  -- AROUND. Every cell is on the walk, so something was seen in it
+  module _ (text : Text) (walk : IsOnWalk d text d.shape.cells old) where
+    seen_in : (c : ℕ) → c < z.cells
+        → (e : Sight) × In e old.view.client.seen × (e.cell ≡ c) × (e.slots ≢ [])
+    seen_in c h =
+        let o = covers z text c h in
+        let cells = over.cells in
+        let low = o.1 in
+        let past = walk.walked o.0 (omega (arith, cells, low)) in (
+          past.0,
+          past.1,
+          past.2 ∙ o.2,
+          λ none. past.4 text
+              (sym (ap (λ (ss : List SlotId). payloads (own_of old.view) ss ++ text) none)),
+        )
+
+    new_text : IsNew z p old.view.client text
+    new_text =
+        let cells = over.cells in
+        tells.walks text d.shape.cells walk.is_open (walked_there text d.shape.cells walk)
+        (inr (omega (arith, cells)))
+
+    pub around : GoesAround d text old new
+    around = record {
+      walk = walk_still d text d.shape.cells 1 old new seen_looks walk;
+      none = at_step fits d (look_next z) (LookTells z) (Cell i) x old new step
+          (λ q. NoRecord z q text) new_text.none;
+      untold = untold_then text new_text.untold;
+      spent = λ may.
+          let b = ap (λ (es : List Rope). length es) same_lists.1 in
+          let g = same_lists.3 in
+          let cells = over.cells in
+          let few = over.few in
+          let null = tells.room (omega (arith, may, b, g)) (omega (arith, cells, few)) in
+          let o = seen_in null.0 null.1 in
+          tells.unseen walk.is_open o.0 o.1 o.3
+          (ap (λ (c : ℕ). cell z p c) o.2 ∙ null.2);
+    }
+
   module _ (none : x ≡ None) (low : i < d.shape.cells) (text : Text) (passed : ℕ)
       (at : i ≡ on (area_of d.protocol) text passed) (walk : IsOnWalk d text passed old) where
-    abbrev p : Plain
-    p = state fits d (look_next z) (LookTells z) (Cell i) x old new step
-
     null_here : cell z p (on z text passed) ≡ None
     null_here =
         let first = over.first in
@@ -126,18 +206,27 @@ module _ (fits : List ℕ → Type 0) (d : DomainState CellLaw) (i : ℕ) (x : O
         ∙ (ap slot_in (sym w)
         ∙ (slot_is fits d (look_next z) (LookTells z) (Cell i) x old new step ∙ none)))
 
-    walked_there : Walked z (own_part p old.view.core.seat) old.view.client text passed
-    walked_there =
-        walk_stays z (own_of old.view) (own_part p old.view.core.seat) old.view.client
-        old.view.client text passed (past_walked d text passed old walk.walked) (λ e was. was)
-        (λ e s was in_slots some. objects_told fits d (look_next z) (LookTells z) (Cell i) x old new step s)
+    -- it has seen no more than before
+    same_view : new.view.client ≡ old.view.client
+    same_view =
+        step.told.client
+        ∙ ap (λ (k : ℕ). sees (i - d.protocol.first) k old.view.client)
+        (word_null step.word
+        (slot_is fits d (look_next z) (LookTells z) (Cell i) x old new step ∙ none))
 
-    pub null_tells : AtStep d (IsNullOn z text passed) old new
+    pub null_tells : ComesToNull d text passed old new
     null_tells =
-        at_step fits d (look_next z) (LookTells z) (Cell i) x old new step (IsNullOn z text passed) (
-          null_here,
-          step.told.happened.fact.2.1 text passed walk.is_open walked_there null_here,
-        )
+        let new_text = tells.walks text passed walk.is_open (walked_there text passed walk)
+        (inl null_here) in
+        record {
+          walk = walk_still d text passed 1 old new seen_looks walk;
+          null = at_step fits d (look_next z) (LookTells z) (Cell i) x old new step
+              (IsNullOn z text passed) (null_here, new_text.none);
+          untold = untold_then text new_text.untold;
+          unseen = λ e i some there.
+              tells.unseen walk.is_open e (subst (λ (v : View). In e v.seen) same_view i) some
+              (ap (λ (c : ℕ). cell z p c) there ∙ null_here);
+        }
 
 pub head_seen : (fits : List ℕ → Type 0) (d : DomainState CellLaw) (i : ℕ) (x : Option SlotId)
     (old new : SeatState View) → IsOver d

@@ -5,6 +5,7 @@ use Rattle.std.proofs.Math.Nat.{mul-le-mul_right}
 use Rattle.std.proofs.lemmas.Bool.{cases_eq}
 use Rattle.cell_calls.specs.Cells.{IsOver, area_of}
 use Rattle.cell_calls.specs.Keeping.{Keeps}
+use Rattle.cell_calls.specs.cell_law.Cells.{NoRecord}
 use Rattle.cell_calls.specs.cell_law.Walks.{SawAll}
 use Rattle.cell_calls.specs.cell_law.directory_law.Cells.{on}
 use Rattle.cell_calls.specs.cell_law.directory_law.Payloads.{Text}
@@ -16,8 +17,8 @@ use Rattle.epoch_domain.specs.Domains.{DomainState}
 use Rattle.epoch_domain.specs.Seats.{SeatState}
 use Rattle.epoch_refs.specs.Walks.{IsAtRest}
 use Rattle.record_texts.specs.Texts.{text_of}
-use Rattle.cell_finding.specs.Finding.{IsFound, IsNullOn, IsOnWalk, IsPast, IsRecordIn}
-use Rattle.cell_finding.specs.Looking.{AtStep, IsFew, OnlyLooks}
+use Rattle.cell_finding.specs.Finding.{ComesToNull, GoesAround, IsFound, IsNullOn, IsOnWalk, IsPast, IsRecordIn}
+use Rattle.cell_finding.specs.Looking.{IsFew, OnlyLooks}
 use Rattle.cell_finding.specs.Sought.{IsSought}
 use Rattle.cell_finding.proofs.Looks.{later_step, looks_none, looks_open, looks_seat, looks_then, looks_wider}
 use Rattle.cell_finding.proofs.Past.{past_still}
@@ -71,11 +72,25 @@ module _ (d : DomainState CellLaw) (text : Text) (m : ℕ) where
   }
 
   pub null_later : (n : ℕ) (a b c : SeatState View) → OnlyLooks n a b
-      → AtStep d (IsNullOn (area_of d.protocol) text m) b c
-      → AtStep d (IsNullOn (area_of d.protocol) text m) a c
-  null_later n a b c looks at =
-      later_step d (IsNullOn (area_of d.protocol) text m) a b c (looks_seat n a b looks)
-      looks.keeps.goes at
+      → ComesToNull d text m b c → ComesToNull d text m a c
+  null_later n a b c looks null = record {
+    walk = null.walk;
+    null = later_step d (IsNullOn (area_of d.protocol) text m) a b c (looks_seat n a b looks)
+        looks.keeps.goes null.null;
+    untold = null.untold;
+    unseen = null.unseen;
+  }
+
+-- what is so where a walk has passed all cells in the last part of a call is so in the call
+pub around_later : (d : DomainState CellLaw) (text : Text) (n : ℕ) (a b c : SeatState View)
+    → OnlyLooks n a b → GoesAround d text b c → GoesAround d text a c
+around_later d text n a b c looks around = record {
+  walk = around.walk;
+  none = later_step d (λ p. NoRecord (area_of d.protocol) p text) a b c (looks_seat n a b looks)
+      looks.keeps.goes around.none;
+  untold = around.untold;
+  spent = around.spent;
+}
 
 -- what is found in the last part of a call is found in the call
 pub found_later : (d : DomainState CellLaw) (text : Text) (s : SlotId) (n : ℕ) (a b c : SeatState View)
@@ -109,6 +124,16 @@ way_begins d text most from old walk rest = record {
   rest = rest;
   behind = omega arith;
 }
+
+-- one look more, once the walk has come around
+pub around_looks : (d : DomainState CellLaw) (text : Text) (most from passed : ℕ)
+    (old now new : SeatState View) → OnTheWay d text most from passed old now → OnlyLooks 1 now new
+    → OnlyLooks ((d.shape.cells - from) * most + 1) old new
+around_looks d text most from passed old now new way looks =
+    let few = way.walk.few in
+    let less = no_less (passed - from) (d.shape.cells - from) most (omega (arith, few)) in
+    looks_then ((passed - from) * most) old now way.looks 1 ((d.shape.cells - from) * most + 1) new
+    (omega (arith, less)) looks
 
 module _ (d : DomainState CellLaw) (text : Text) (most from passed : ℕ)
     (old now new : SeatState View) (way : OnTheWay d text most from passed old now)

@@ -5,7 +5,7 @@ ghost use Rattle.epoch_domain.specs.epoch_core.Views.{IsInside};
 ghost use Rattle.epoch_refs.specs.Walks.{IsAtRest};
 ghost use Rattle.record_texts.specs.Texts.{parts_after, text_of};
 ghost use Rattle.cell_finding.specs.Comparing.{IsAlong, IsWhole, sighted};
-ghost use Rattle.cell_finding.specs.Finding.{IsFound, IsPast};
+ghost use Rattle.cell_finding.specs.Finding.{IsFound, IsOwnIfAlone, IsPast};
 ghost use Rattle.cell_finding.specs.Looking.{OnlyLooks};
 ghost use Rattle.cell_finding.specs.Sought.{IsSought};
 
@@ -55,7 +55,8 @@ pub(crate) fn note_found(domain: &EpochDomain<CellLaw>, seat: &mut EpochSeat<Cel
     requires inside { IsInside seat.old.view.core }
     requires whole { (text : Text) × IsWhole text head seat.old × IsText text }
     ensures found { (text : Text) → IsWhole text head seat.old
-        → IsFound domain.now text head seat.old seat.new }
+        → IsFound domain.now text head seat.old seat.new
+        × IsOwnIfAlone domain.now text head seat.new }
     ensures looks { OnlyLooks 1 seat.old seat.new }
     ensures rest { IsAtRest domain.now seat.new }
 {

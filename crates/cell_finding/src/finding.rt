@@ -17,9 +17,10 @@ use epoch_refs::{EpochDomain, EpochSeat};
 use record_texts::cell_on;
 
 /// Looks at the cell on the walk of a text that comes after so many others, in an open region. `Null` comes where that
-/// cell was null at a step of this call: no cell held a record of the text then. `Other` comes where it has the record
-/// of another text, so the walk goes on behind it. `Record` is the record of the text, at a step of this call; the
-/// region has seen it, so until the exit it isn't destroyed. At most 18 events, and 17 more for each part of the text.
+/// cell was null at a step of this call: no cell held a record of the text then, and the view tells of none. `Other`
+/// comes where it has the record of another text, so the walk goes on behind it. `Record` is the record of the text, at
+/// a step of this call; the region has seen it, so until the exit it isn't destroyed. At most 18 events, and 17 more
+/// for each part of the text.
 pub fn look(
     domain: &EpochDomain<CellLaw>,
     seat: &mut EpochSeat<CellLaw>,
@@ -52,8 +53,9 @@ pub fn look(
 }
 
 /// Goes on with the walk of a text that has passed so many cells, until a cell is null or has the record of the text.
-/// `Null` tells how many cells the walk has passed then, and `Around` comes where it has passed all cells. For each
-/// cell at most the events of `look`.
+/// `Null` tells how many cells the walk has passed then. `Around` comes where it has passed all cells: no cell held a
+/// record of the text then, the view tells of none, and the seat may put no head more into a cell. So a seat that may
+/// never meets it. For each cell at most the events of `look`, and one more.
 pub fn seek(
     domain: &EpochDomain<CellLaw>,
     seat: &mut EpochSeat<CellLaw>,
@@ -70,7 +72,7 @@ pub fn seek(
     ensures learns { Learns seat.old.view.client seat.new.view.client }
     ensures keeps { Keeps 0 0 seat.old.view.core.owned seat.old seat.new }
     ensures few { IsFew ((domain.now.shape.cells - from)
-        * (18 + 17 * parts_after (length sought.now.text.now))) seat.old seat.new }
+        * (18 + 17 * parts_after (length sought.now.text.now)) + 1) seat.old seat.new }
     ensures rest { IsAtRest domain.now seat.new }
 {
     for passed in from..domain.shape().cells {
@@ -80,5 +82,7 @@ pub fn seek(
             Sight::Other => {}
         }
     }
+    // One more look, whatever it finds: once all cells are passed, it tells what `Around` says.
+    let _ = head_in(domain, seat, 0);
     Walk::Around
 }

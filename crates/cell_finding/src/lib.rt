@@ -15,7 +15,7 @@
 //! match seek(&domain, &mut seat, 0, &text) {
 //!     Walk::Record(slot) => ..,            // its record at a step of the call
 //!     Walk::Null(passed) => ..,            // that cell was null at a step of the call, and the text had no record
-//!     Walk::Around => ..,                  // all cells have records of other texts
+//!     Walk::Around => ..,                  // all cells have other records: the seat may put none there
 //! }
 //! exit(&domain, &mut seat);
 //! ```

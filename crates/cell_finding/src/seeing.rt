@@ -6,13 +6,14 @@ ghost use Rattle.cell_calls.specs.cell_law.directory_law.Payloads.{IsText, Text}
 ghost use Rattle.epoch_domain.specs.epoch_core.Views.{IsInside};
 ghost use Rattle.epoch_refs.specs.Walks.{IsAtRest};
 ghost use Rattle.cell_finding.specs.Comparing.{GoesOnTo, IsAlong, sighted, sighted_text};
-ghost use Rattle.cell_finding.specs.Finding.{IsNullOn, IsOnWalk};
-ghost use Rattle.cell_finding.specs.Looking.{AtStep, OnlyLooks};
+ghost use Rattle.cell_finding.specs.Finding.{ComesToNull, GoesAround, IsOnWalk};
+ghost use Rattle.cell_finding.specs.Looking.{OnlyLooks};
 
 use cell_calls::{CellLaw, LookCell, ReadPart};
 use epoch_refs::{EpochDomain, EpochSeat, Place, SlotId, e_look};
 
-/// The head that a cell holds, which the seat may read from now on. One event.
+/// The head that a cell holds, which the seat may read from now on. One event. Where the walk of a text has passed all
+/// cells, it tells besides that no cell holds a record of that text, whatever this one holds.
 pub(crate) fn head_in(
     domain: &EpochDomain<CellLaw>,
     seat: &mut EpochSeat<CellLaw>,
@@ -28,8 +29,9 @@ pub(crate) fn head_in(
     ensures null { IsNone result → (text : Text) (passed : ℕ)
         → cell ≡ on (area_of domain.now.protocol) text passed
         → IsOnWalk domain.now text passed seat.old
-        → AtStep domain.now (IsNullOn (area_of domain.now.protocol) text passed) seat.old
-        seat.new }
+        → ComesToNull domain.now text passed seat.old seat.new }
+    ensures around { (text : Text) → IsOnWalk domain.now text domain.now.shape.cells seat.old
+        → GoesAround domain.now text seat.old seat.new }
     ensures looks { OnlyLooks 1 seat.old seat.new }
     ensures rest { IsAtRest domain.now seat.new }
 {

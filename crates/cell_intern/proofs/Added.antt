@@ -5,6 +5,7 @@ use Rattle.cell_calls.proofs.Keeping.{keeps_then, keeps_wider}
 use Rattle.cell_calls.specs.cell_law.declared.view.View.{View}
 use Rattle.cell_calls.specs.cell_law.directory_law.Payloads.{Text}
 use Rattle.cell_calls.specs.cell_law.directory_law.Views.{In, rope}
+use Rattle.cell_calls.specs.cell_law.directory_law.declared.view.Rope.{Rope}
 use Rattle.cell_calls.specs.cell_law.plain_state.declared.slot.SlotId.{SlotId}
 use Rattle.cell_calls.specs.cell_law.plain_state.Lists.{times}
 use Rattle.cell_calls.specs.cell_protocol.declared.law.CellLaw.{CellLaw}
@@ -21,8 +22,8 @@ use Rattle.epoch_refs.specs.epoch_domain.Domains.{DomainState}
 use Rattle.epoch_refs.specs.epoch_domain.Seats.{SeatState}
 use Rattle.epoch_domain.proofs.Below.core_law_Kit.{one_same, times_push, times_without}
 use Rattle.cell_making.specs.Bindings.{HasHead}
-use Rattle.cell_making.specs.Making.{candidate_in}
-use Rattle.cell_making.proofs.Heads.{head_stays}
+use Rattle.cell_making.specs.Making.{HasMade, candidate_in}
+use Rattle.cell_making.proofs.Heads.{head_stays, made_notes}
 use Rattle.cell_making.proofs.Kept.{drop_back, drop_keeps}
 use Rattle.cell_making.proofs.Owned.{holds_on, keeps_dropped}
 use Rattle.cell_finding.specs.Finding.{IsOnWalk}
@@ -32,12 +33,21 @@ use Rattle.cell_intern.specs.Refusals.{IsWhy}
 use Rattle.cell_intern.specs.declared.refusal.InternError.{InternError}
 use Rattle.cell_intern.proofs.Causes.{why_after, why_on}
 use Rattle.cell_intern.proofs.Kept.{add_keeps}
-use Rattle.cell_intern.proofs.Placed.{learns_same}
-use Rattle.cell_intern.proofs.Quiet.{Quiet, quiet_same, quiet_then}
+use Rattle.cell_intern.proofs.Quiet.{Quiet, learns_same, quiet_notes, quiet_same, quiet_then}
 
 pub pushed_more : (t : SlotId) (xs : List SlotId) (x : SlotId)
     → times x xs ≤ times x (xs ++ t ∷ [])
 pushed_more t xs x = let p = times_push x t xs in omega (arith, p)
+
+-- a make of a record and a copy of its head bind nothing
+pub quiet_copied : (d : DomainState CellLaw) (fits : List ℕ → Type 0) (text : Text) (h : SlotId)
+    (n : ℕ) (old made copied : SeatState View) → HasMade text n h old made
+    → Steps fits d same_view IsSameView (act.Add h) made copied outcome.Plain
+    → Quiet old.view.client copied.view.client
+quiet_copied d fits text h n old made copied is add =
+    quiet_then old.view.client made.view.client copied.view.client
+    (quiet_notes old.view.client made.view.client (made_notes text n h old made is))
+    (quiet_same made.view.client copied.view.client add.told.client)
 
 -- a reference to what it has listed is that of a record with this text
 pub has_still : (text : Text) (t : SlotId) (a b : SeatState View) → Has text t a
@@ -162,7 +172,8 @@ module _ (d : DomainState CellLaw) (fits : List ℕ → Type 0) (text : Text) (h
           let q = times_push x h old.view.core.owned in omega (arith, c, l, q))
 
       pub placed_has : Keeps 0 1 (without h copied.view.core.owned) copied placed
-          → In (candidate_in h text copied) placed.view.client.bound → Has text h placed
+          → placed.view.client.bound ≡ candidate_in h text copied ∷ copied.view.client.bound
+          → Has text h placed
       placed_has second listed =
           let t = twice in
           let l = less h in
@@ -171,7 +182,9 @@ module _ (d : DomainState CellLaw) (fits : List ℕ → Type 0) (text : Text) (h
           let owned : 0 < times h placed.view.core.owned = omega (arith, t, l, o, k) in
           record {
             listed = inr (subst (λ (x : Object). In (rope h x.life text) placed.view.client.bound)
-                (sym (second.knows h (omega (arith, t)) (omega (arith, owned)))) listed);
+                (sym (second.knows h (omega (arith, t)) (omega (arith, owned))))
+                (subst (λ (es : List Rope). In (candidate_in h text copied) es) (sym listed)
+                (inl refl)));
             owned = owned;
           }
 
@@ -218,9 +231,9 @@ module _ (d : DomainState CellLaw) (fits : List ℕ → Type 0) (text : Text) (h
               has_still text t placed next has drop.told.client
               (dropped.knows t (omega (arith, was)) (omega (arith, owned))) owned
 
-          pub placed_why : (error : InternError) → IsWhy d text error copied placed
-              → IsWhy d text error old next
+          pub placed_why : (error : InternError) → IsWhy d error copied placed
+              → IsWhy d error old next
           placed_why error why =
-              why_on d text error (without h placed.view.core.owned) old placed next
-              (why_after d text error n (n + 1) (made.view.core.owned ++ h ∷ []) old copied placed both why)
+              why_on d error (without h placed.view.core.owned) old placed next
+              (why_after d error n (n + 1) (made.view.core.owned ++ h ∷ []) old copied placed both why)
               dropped

@@ -47,6 +47,12 @@ module _ {P V : Type 0} (fits : List ℕ → Type 0) (d : DomainState P) (old a 
     ap (λ (v : EpochView). v.trail) enters.core,
   )
 
+  -- the opening leaves the client's view
+  pub same_client : a.view.client ≡ old.view.client
+  same_client =
+      ap (λ (s : SeatState V). s.view.client) enters.walks.2.2
+      ∙ (enters.walks.2.1.told.client ∙ enters.walks.1.told.client)
+
   -- what it knew of what it owns
   same_object : (x : SlotId) → 0 < times x old.view.core.owned
       → object_in a.view x ≡ object_in old.view x

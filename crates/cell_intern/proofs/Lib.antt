@@ -1,7 +1,9 @@
 pub mod Quiet
+pub mod Untold
 pub mod Kept
 pub mod Causes
 pub mod Placed
+pub mod Handed
 pub mod Added
 pub mod Around
 pub mod Inside

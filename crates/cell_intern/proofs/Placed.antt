@@ -1,13 +1,11 @@
 -- A head that is being placed.
 use Rattle.std.proofs.Common.{◌≡◌, inl, ℕ, ◌<◌, List, [], ◌∷◌, ◌++◌, refl, ap, sym, ◌∙◌, subst, arith}
-use Rattle.std.specs.Prelude.{Err, IfOk, IsErr, Ok, Result}
-use Rattle.cell_making.specs.counted_handles.Handles.{Handle}
-use Rattle.epoch_refs.specs.declared.Spent.{Spent}
-use Rattle.cell_calls.specs.Cells.{area_of}
+use Rattle.cell_calls.specs.Cells.{BindsAlone, HasBind, area_of}
 use Rattle.cell_calls.specs.Keeping.{Keeps, Learns}
 use Rattle.cell_calls.specs.cell_law.directory_law.Cells.{on}
 use Rattle.cell_calls.proofs.Keeping.{keeps_self}
 use Rattle.cell_calls.specs.cell_law.Making.{binds}
+use Rattle.cell_calls.specs.cell_law.Views.{TellsNone}
 use Rattle.cell_calls.specs.cell_law.declared.view.View.{View}
 use Rattle.cell_calls.specs.cell_law.directory_law.Payloads.{Text}
 use Rattle.cell_calls.specs.cell_law.directory_law.Views.{In, rope}
@@ -25,7 +23,7 @@ use Rattle.epoch_domain.proofs.Below.core_law_Kit.{one_same, times_push}
 use Rattle.cell_making.specs.Bindings.{CanBind, HasHead}
 use Rattle.cell_making.specs.Making.{candidate_in}
 use Rattle.cell_making.proofs.Heads.{head_stays}
-use Rattle.cell_finding.specs.Finding.{IsFound, IsOnWalk}
+use Rattle.cell_finding.specs.Finding.{ComesToNull, GoesAround, IsFound, IsOnWalk, IsOwnIfAlone}
 use Rattle.cell_finding.proofs.Past.{past_walked}
 use Rattle.cell_finding.proofs.Walking.{walk_kept}
 use Rattle.cell_making.proofs.Kept.{drop_keeps}
@@ -35,10 +33,10 @@ use Rattle.epoch_refs.specs.epoch_core.declared.outcome.EpochOutcome.{EpochOutco
 use Rattle.epoch_refs.specs.epoch_core.declared.outcome.EpochOutcome.TheVariants as outcome
 use Rattle.epoch_refs.specs.epoch_domain.Calls.{IsSameView, Steps, same_view}
 use Rattle.cell_intern.specs.Interning.{Grows, Has, IsInRegion}
-use Rattle.cell_intern.specs.Refusals.{WalksAround}
 use Rattle.cell_intern.proofs.Causes.{spent_on}
 use Rattle.cell_intern.proofs.Kept.{add_keeps, gave_on, keeps_on, region_on, swapped_on}
-use Rattle.cell_intern.proofs.Quiet.{Quiet, grows_after, grows_bound, grows_quiet, listed_bound, quiet_learns, quiet_same, quiet_then}
+use Rattle.cell_intern.proofs.Untold.{may_on, not_bound, untold_view}
+use Rattle.cell_intern.proofs.Quiet.{Quiet, grows_after, grows_bound, grows_quiet, learns_same, listed_bound, quiet_learns, quiet_same, quiet_then}
 
 module _ (d : DomainState CellLaw) (text : Text) (s : SlotId) where
   -- the head is to be placed still, by a walk that has passed so many cells
@@ -48,22 +46,29 @@ module _ (d : DomainState CellLaw) (text : Text) (s : SlotId) where
     pub head : HasHead text s now
     pub keeps : Keeps 0 0 old.view.core.owned old now
     pub quiet : Quiet old.view.client now.view.client
+    pub may : HasBind now
+    -- where no other seat may put heads into cells, the text has no record yet
+    pub untold : BindsAlone d old → TellsNone now.view.client text
 
   pub none_placed : (from : ℕ) (seat : SeatState View) → IsInRegion d seat → IsOnWalk d text from seat
-      → HasHead text s seat → PlacesSoFar from seat seat
-  none_placed from seat region walk head = record {
+      → HasHead text s seat → HasBind seat → TellsNone seat.view.client text
+      → PlacesSoFar from seat seat
+  none_placed from seat region walk head may untold = record {
     region = region;
     walk = walk;
     head = head;
     keeps = keeps_self seat;
     quiet = quiet_same seat.view.client seat.view.client refl;
+    may = may;
+    untold = λ alone. untold;
   }
 
   -- it has looked on, or lost an exchange
   pub placed_on : (passed further : ℕ) (old now next : SeatState View) → PlacesSoFar passed old now
       → Keeps 0 0 now.view.core.owned now next → Learns now.view.client next.view.client
-      → IsAtRest d next → IsOnWalk d text further next → PlacesSoFar further old next
-  placed_on passed further old now next so keeps learns rest walk =
+      → IsAtRest d next → IsOnWalk d text further next
+      → (BindsAlone d old → TellsNone next.view.client text) → PlacesSoFar further old next
+  placed_on passed further old now next so keeps learns rest walk untold =
       let quiet = quiet_learns now.view.client next.view.client learns in
       let owned : 0 < times s next.view.core.owned =
       let o = keeps.owns s in let was = so.head.owned in omega (arith, o, was) in
@@ -74,6 +79,8 @@ module _ (d : DomainState CellLaw) (text : Text) (s : SlotId) where
         keeps = keeps_owned old now next so.keeps
             (keeps_on 0 0 now.view.core.owned old now next so.keeps keeps);
         quiet = quiet_then old.view.client now.view.client next.view.client so.quiet quiet;
+        may = may_on now.view.client next.view.client quiet so.may;
+        untold = untold;
       }
     where
       keeps_owned : (a b c : SeatState View) → Keeps 0 0 a.view.core.owned a b
@@ -91,12 +98,55 @@ module _ (d : DomainState CellLaw) (text : Text) (s : SlotId) where
   -- a lost exchange leaves the walk
   pub lost_on : (passed : ℕ) (old now next : SeatState View) → PlacesSoFar passed old now
       → Keeps 0 0 now.view.core.owned now next → Learns now.view.client next.view.client
-      → IsAtRest d next → PlacesSoFar passed old next
-  lost_on passed old now next so keeps learns rest =
+      → IsAtRest d next → (BindsAlone d old → TellsNone next.view.client text)
+      → PlacesSoFar passed old next
+  lost_on passed old now next so keeps learns rest untold =
       let quiet = quiet_learns now.view.client next.view.client learns in
       placed_on passed passed old now next so keeps learns rest
       (walk_kept d text passed 0 0 now.view.core.owned now next so.walk keeps learns.saw
-      (quiet.cleared ∙ so.region.is_open))
+      (quiet.cleared ∙ so.region.is_open)) untold
+
+  -- a record that was found is another seat's
+  pub not_own : (passed : ℕ) (old now next : SeatState View) → PlacesSoFar passed old now
+      → Learns now.view.client next.view.client → (t : SlotId) → IsOwnIfAlone d text t next
+      → BindsAlone d old → ⊥
+  not_own passed old now next so learns t own alone =
+      let quiet = quiet_learns now.view.client next.view.client learns in
+      let e : Rope = rope t (object_in next.view t).life text in
+      not_bound e now.view.client (so.untold alone)
+      (subst (λ (es : List Rope). In e es) quiet.bound (own (quiet.grant ∙ (so.quiet.grant ∙ alone))))
+
+  -- it has come to a null cell
+  pub null_on : (passed further : ℕ) (old now next : SeatState View) → PlacesSoFar passed old now
+      → Keeps 0 0 now.view.core.owned now next → Learns now.view.client next.view.client
+      → IsAtRest d next → ComesToNull d text further now next → PlacesSoFar further old next
+  null_on passed further old now next so keeps learns rest null =
+      placed_on passed further old now next so keeps learns rest null.walk (λ alone. null.untold)
+
+  -- its view is as it was
+  pub same_on : (passed : ℕ) (old now next : SeatState View) → PlacesSoFar passed old now
+      → Keeps 0 0 now.view.core.owned now next → next.view.client ≡ now.view.client
+      → IsAtRest d next → PlacesSoFar passed old next
+  same_on passed old now next so keeps same rest =
+      lost_on passed old now next so keeps
+      (learns_same now.view.client next.view.client same) rest
+      (λ alone. untold_view text now.view.client next.view.client same (so.untold alone))
+
+  -- it has found that
+  pub found_on : (passed : ℕ) (old now next : SeatState View) → PlacesSoFar passed old now
+      → Keeps 0 0 now.view.core.owned now next → Learns now.view.client next.view.client
+      → IsAtRest d next → IsOnWalk d text passed next → (t : SlotId) → IsOwnIfAlone d text t next
+      → PlacesSoFar passed old next
+  found_on passed old now next so keeps learns rest walk t own =
+      placed_on passed passed old now next so keeps learns rest walk
+      (λ alone. absurd (not_own passed old now next so learns t own alone))
+
+  -- a walk that may bind doesn't go around
+  pub not_around : (passed : ℕ) (old now next : SeatState View) → PlacesSoFar passed old now
+      → Learns now.view.client next.view.client → GoesAround d text now next → ⊥
+  not_around passed old now next so learns around =
+      around.spent (may_on now.view.client next.view.client
+      (quiet_learns now.view.client next.view.client learns) so.may)
 
   module _ (passed : ℕ) (old now : SeatState View) (so : PlacesSoFar passed old now) where
     pub can_bind : (cell : ℕ) → cell ≡ on (area_of d.protocol) text passed
@@ -120,22 +170,24 @@ module _ (d : DomainState CellLaw) (text : Text) (s : SlotId) where
   -- IT WAS BOUND
   module _ (passed : ℕ) (old now next : SeatState View) (so : PlacesSoFar passed old now)
       (was : 0 < times s old.view.core.owned) where
-    module _ (bound : next.view.client ≡ binds now.view.client)
+    module _ (cell : ℕ) (bound : next.view.client ≡ binds cell now.view.client)
         (keeps : Keeps 0 0 (without s now.view.core.owned) now next) (rest : IsAtRest d next) where
-      pub placed_ok : In (candidate_in s text old) next.view.client.bound
-      placed_ok = subst (λ (e : Rope). In e next.view.client.bound) (same_head passed old now so was)
-          (listed_bound text s now next.view.client so.head bound)
+      pub placed_ok : next.view.client.bound ≡ candidate_in s text old ∷ old.view.client.bound
+      placed_ok =
+          listed_bound text s cell now next.view.client so.head bound
+          ∙ (ap (λ (e : Rope). e ∷ now.view.client.bound) (same_head passed old now so was)
+          ∙ ap (λ (es : List Rope). candidate_in s text old ∷ es) so.quiet.bound)
 
       pub grows_ok : Grows text old.view.client next.view.client
       grows_ok = grows_after text old.view.client now.view.client next.view.client so.quiet
-          (grows_bound text s now next.view.client so.head bound)
+          (grows_bound text s cell now next.view.client so.head bound)
 
       pub keeps_ok : Keeps 0 1 (without s old.view.core.owned) old next
       keeps_ok = gave_on s old now next so.keeps keeps so.head.owned
 
       pub region_ok : IsInRegion d next
       region_ok = region_on d 0 0 (without s now.view.core.owned) now next so.region keeps rest
-          (grows_bound text s now next.view.client so.head bound).cleared
+          (grows_bound text s cell now next.view.client so.head bound).cleared
 
     -- IT WAS GIVEN UP
     module _ (fits : List ℕ → Type 0) (o : EpochOutcome)
@@ -155,14 +207,6 @@ module _ (d : DomainState CellLaw) (text : Text) (s : SlotId) where
         pub region_given : IsInRegion d next
         region_given = region_on d 0 0 (without s now.view.core.owned) now next so.region given rest
             (ap (λ (v : View). v.cleared) drop.told.client)
-
-        pub around_given : IsOnWalk d text d.shape.cells now → WalksAround d text old next
-        around_given walk = record {
-          mid = now;
-          walk = walk;
-          since = so.keeps.goes;
-          till = given.goes;
-        }
 
         pub spent_given : IsSpent now.view.core → IsSpent next.view.core
         spent_given = spent_on 0 (without s now.view.core.owned) now next given
@@ -224,48 +268,3 @@ module _ (d : DomainState CellLaw) (text : Text) (s : SlotId) where
         (region_on d 0 1 (now.view.core.owned ++ t ∷ []) now mid so.region gained rested
         (ap (λ (v : View). v.cleared) add.told.client)) given_then rest
         (ap (λ (v : View). v.cleared) drop.told.client)
-
--- WITH THE HEAD as the loop has it
-module _ (d : DomainState CellLaw) (text : Text) (h s : SlotId) (same : h ≡ s) where
-  pub bind_by : (passed : ℕ) (old now : SeatState View) (cell : ℕ) → PlacesSoFar d text s passed old now
-      → cell ≡ on (area_of d.protocol) text passed → CanBind d cell h now
-  bind_by passed old now cell so at =
-      subst (λ (x : SlotId). CanBind d cell x now) (sym same) (can_bind d text s passed old now so cell at)
-
-  pub dropped_by : (fits : List ℕ → Type 0) (o : EpochOutcome) (now next : SeatState View)
-      → Steps fits d same_view IsSameView (act.Drop h) now next o
-      → Steps fits d same_view IsSameView (act.Drop s) now next o
-  dropped_by fits o now next step =
-      subst (λ (x : SlotId). Steps fits d same_view IsSameView (act.Drop x) now next o) same step
-
-  pub kept_by : (now next : SeatState View) → Keeps 0 0 (without h now.view.core.owned) now next
-      → Keeps 0 0 (without s now.view.core.owned) now next
-  kept_by now next keeps =
-      subst (λ (x : SlotId). Keeps 0 0 (without x now.view.core.owned) now next) same keeps
-
-  -- it is owned still, once a reference to another record was gained
-  pub owned_by : (fits : List ℕ → Type 0) (t : SlotId) (passed : ℕ) (old now mid : SeatState View)
-      → PlacesSoFar d text s passed old now
-      → Steps fits d same_view IsSameView (act.Add t) now mid outcome.Plain
-      → 0 < times h mid.view.core.owned
-  owned_by fits t passed old now mid so add =
-      let k = (add_keeps fits d t now mid add).owns s in
-      let p = times_push s t now.view.core.owned in
-      let was = so.head.owned in
-      subst (λ (x : SlotId). 0 < times x mid.view.core.owned) (sym same) (omega (arith, k, p, was))
-
-  -- and so it is whether one was gained or not
-  pub owned_either : (fits : List ℕ → Type 0) (t : SlotId) (passed : ℕ) (old now mid : SeatState View)
-      (r : Result Handle Spent) → PlacesSoFar d text s passed old now → (IsErr r → mid ≡ now)
-      → IfOk r (λ k. (k.slot ≡ t)
-      × Steps fits d same_view IsSameView (act.Add t) now mid outcome.Plain)
-      → 0 < times h mid.view.core.owned
-  owned_either fits t passed old now mid (Ok k) so refused kept =
-      owned_by fits t passed old now mid so kept.1
-  owned_either fits t passed old now mid (Err e) so refused kept =
-      subst (λ (x : SeatState View). 0 < times h x.view.core.owned) (sym (refused refl))
-      (subst (λ (x : SlotId). 0 < times x now.view.core.owned) (sym same) so.head.owned)
-
-pub learns_same : (v w : View) → w ≡ v → Learns v w
-learns_same v w is = subst (Learns v) (sym is)
-    (record { saw = λ e has. has; found = λ e has. has; rest = refl })

@@ -1,10 +1,11 @@
 -- How views grow one after another.
-use Rattle.std.proofs.Common.{◌≡◌, ⊎_elim, inl, inr, List, ◌∷◌, refl, ap, sym, ◌∙◌, subst}
+use Rattle.std.proofs.Common.{◌≡◌, ⊎_elim, inl, inr, ℕ, List, ◌∷◌, refl, ap, sym, ◌∙◌, subst}
 use Rattle.cell_making.specs.Bindings.{HasHead}
 use Rattle.cell_making.specs.Making.{candidate_in}
 use Rattle.cell_making.proofs.Heads.{head_bound}
 use Rattle.cell_calls.specs.Keeping.{Learns, NotesOnly}
 use Rattle.cell_calls.specs.cell_law.Making.{binds}
+use Rattle.cell_calls.specs.cell_law.Views.{sight}
 use Rattle.cell_calls.specs.cell_law.Walks.{SawAll}
 use Rattle.cell_calls.specs.cell_law.declared.view.View.{View}
 use Rattle.cell_calls.specs.cell_law.directory_law.Payloads.{Text}
@@ -12,7 +13,7 @@ use Rattle.cell_calls.specs.cell_law.directory_law.Views.{In}
 use Rattle.cell_calls.specs.cell_law.directory_law.declared.view.Rope.{Rope}
 use Rattle.cell_calls.specs.cell_law.plain_state.declared.slot.SlotId.{SlotId}
 use Rattle.epoch_refs.specs.epoch_domain.Seats.{SeatState}
-use Rattle.cell_intern.specs.Interning.{Grows}
+use Rattle.cell_intern.specs.Interning.{BindsMore, Grows}
 
 -- the view has seen and found more, and bound nothing
 pub record Quiet (v w : View) : Type 0 where
@@ -20,7 +21,12 @@ pub record Quiet (v w : View) : Type 0 where
   pub found : (e : Rope) → In e v.found → In e w.found
   pub bound : w.bound ≡ v.bound
   pub joined : w.joined ≡ v.joined
+  pub grant : w.grant ≡ v.grant
   pub cleared : w.cleared ≡ v.cleared
+
+pub learns_same : (v w : View) → w ≡ v → Learns v w
+learns_same v w is = subst (Learns v) (sym is)
+    (record { saw = λ e has. has; found = λ e has. has; rest = refl })
 
 pub quiet_same : (v w : View) → w ≡ v → Quiet v w
 quiet_same v w is = subst (Quiet v) (sym is) (record {
@@ -28,6 +34,7 @@ quiet_same v w is = subst (Quiet v) (sym is) (record {
   found = λ e has. has;
   bound = refl;
   joined = refl;
+  grant = refl;
   cleared = refl;
 })
 
@@ -37,6 +44,7 @@ quiet_learns v w l = record {
   found = l.found;
   bound = ap (λ (x : View). x.bound) l.rest;
   joined = ap (λ (x : View). x.joined) l.rest;
+  grant = ap (λ (x : View). x.grant) l.rest;
   cleared = ap (λ (x : View). x.cleared) l.rest;
 }
 
@@ -46,6 +54,7 @@ quiet_notes v w is = record {
   found = λ e has. subst (λ (x : View). In e x.found) (sym is) has;
   bound = ap (λ (x : View). x.bound) is;
   joined = ap (λ (x : View). x.joined) is;
+  grant = ap (λ (x : View). x.grant) is;
   cleared = ap (λ (x : View). x.cleared) is;
 }
 
@@ -55,6 +64,7 @@ quiet_then u v w a b = record {
   found = λ e has. b.found e (a.found e has);
   bound = b.bound ∙ a.bound;
   joined = b.joined ∙ a.joined;
+  grant = b.grant ∙ a.grant;
   cleared = b.cleared ∙ a.cleared;
 }
 
@@ -64,6 +74,7 @@ grows_quiet text v w q = record {
   found = q.found;
   bound = inl q.bound;
   joined = q.joined;
+  grant = q.grant;
   cleared = q.cleared;
 }
 
@@ -73,10 +84,11 @@ grows_after text u v w a b = record {
   found = λ e has. b.found e (a.found e has);
   bound = ⊎_elim
       (λ (same : w.bound ≡ v.bound). inl (same ∙ a.bound))
-      (λ (more : (e : Rope) × (e.text ≡ text) × (w.bound ≡ e ∷ v.bound)).
+      (λ (more : BindsMore text v w).
       inr (more.0, more.1, more.2 ∙ ap (λ (es : List Rope). more.0 ∷ es) a.bound))
       b.bound;
   joined = b.joined ∙ a.joined;
+  grant = b.grant ∙ a.grant;
   cleared = b.cleared ∙ a.cleared;
 }
 
@@ -86,31 +98,33 @@ grows_before text u v w a b = record {
   found = λ e has. b.found e (a.found e has);
   bound = ⊎_elim
       (λ (same : v.bound ≡ u.bound). inl (b.bound ∙ same))
-      (λ (more : (e : Rope) × (e.text ≡ text) × (v.bound ≡ e ∷ u.bound)).
+      (λ (more : BindsMore text u v).
       inr (more.0, more.1, b.bound ∙ more.2))
       a.bound;
   joined = b.joined ∙ a.joined;
+  grant = b.grant ∙ a.grant;
   cleared = b.cleared ∙ a.cleared;
 }
 
 -- a head that was bound
-pub grows_bound : (text : Text) (s : SlotId) (seat : SeatState View) (w : View)
-    → HasHead text s seat → w ≡ binds seat.view.client → Grows text seat.view.client w
-grows_bound text s seat w head is =
-    let then : w ≡ record seat.view.client {
-      noted = head.others;
-      bound = candidate_in s text seat ∷ seat.view.client.bound;
-    } = is ∙ head_bound text s seat head in
-    record {
-      saw = λ e has. subst (λ (x : View). In e x.seen) (sym then) has;
-      found = λ e has. subst (λ (x : View). In e x.found) (sym then) has;
-      bound = inr (candidate_in s text seat, refl, ap (λ (x : View). x.bound) then);
-      joined = ap (λ (x : View). x.joined) then;
-      cleared = ap (λ (x : View). x.cleared) then;
-    }
+module _ (text : Text) (s : SlotId) (cell : ℕ) (seat : SeatState View) (w : View)
+    (head : HasHead text s seat) (is : w ≡ binds cell seat.view.client) where
+  then : w ≡ record seat.view.client {
+    noted = head.others;
+    bound = candidate_in s text seat ∷ seat.view.client.bound;
+    seen = sight cell s ∷ seat.view.client.seen;
+  }
+  then = is ∙ head_bound text s cell seat head
 
-pub listed_bound : (text : Text) (s : SlotId) (seat : SeatState View) (w : View)
-    → HasHead text s seat → w ≡ binds seat.view.client → In (candidate_in s text seat) w.bound
-listed_bound text s seat w head is =
-    subst (λ (x : View). In (candidate_in s text seat) x.bound)
-    (sym (is ∙ head_bound text s seat head)) (inl refl)
+  pub listed_bound : w.bound ≡ candidate_in s text seat ∷ seat.view.client.bound
+  listed_bound = ap (λ (x : View). x.bound) then
+
+  pub grows_bound : Grows text seat.view.client w
+  grows_bound = record {
+    saw = λ e has. subst (λ (x : View). In e x.seen) (sym then) (inr has);
+    found = λ e has. subst (λ (x : View). In e x.found) (sym then) has;
+    bound = inr (candidate_in s text seat, refl, listed_bound);
+    joined = ap (λ (x : View). x.joined) then;
+    grant = ap (λ (x : View). x.grant) then;
+    cleared = ap (λ (x : View). x.cleared) then;
+  }

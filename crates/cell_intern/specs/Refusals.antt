@@ -2,15 +2,12 @@
 use Rattle.cell_making.specs.Making.{MissesWithin}
 use Rattle.cell_making.specs.declared.refusals.RecordError.{RecordError}
 use Rattle.cell_making.specs.declared.refusals.RecordError.TheVariants as unmade
-use Rattle.cell_making.specs.cell_calls.Keeping.{GoesOn}
 use Rattle.cell_making.specs.cell_calls.cell_law.declared.view.View.{View}
-use Rattle.cell_making.specs.cell_calls.cell_law.directory_law.Payloads.{Text}
 use Rattle.cell_making.specs.cell_calls.cell_protocol.declared.law.CellLaw.{CellLaw}
 use Rattle.cell_making.specs.epoch_refs.Calls.{IsSpent}
 use Rattle.cell_making.specs.epoch_refs.Making.{HasNoMake}
 use Rattle.cell_making.specs.epoch_refs.epoch_domain.Domains.{DomainState}
 use Rattle.cell_making.specs.epoch_refs.epoch_domain.Seats.{SeatState}
-use Rattle.cell_finding.specs.Finding.{IsOnWalk}
 use Rattle.cell_intern.specs.declared.refusal.InternError.{InternError}
 use Rattle.cell_intern.specs.declared.refusal.InternError.TheVariants as refused
 
@@ -21,19 +18,9 @@ of_record unmade.AddsSpent = refused.AddsSpent
 of_record unmade.Full = refused.Full
 of_record unmade.OutOfMemory = refused.OutOfMemory
 
--- at a state of the call the seat knew that no cell of the text's walk has its record
-pub record WalksAround (d : DomainState CellLaw) (text : Text) (old new : SeatState View) : Type 0
-  where
-    pub mid : SeatState View
-    pub walk : IsOnWalk d text d.shape.cells mid
-    pub since : GoesOn old.view.core mid.view.core
-    pub till : GoesOn mid.view.core new.view.core
-
 -- what is so where a text was not interned
-abbrev pub IsWhy : DomainState CellLaw → Text → InternError → SeatState View → SeatState View
-    → Type 0
-IsWhy d text refused.MakesSpent old new = HasNoMake new.view.core
-IsWhy d text refused.AddsSpent old new = IsSpent new.view.core
-IsWhy d text refused.Full old new = MissesWithin d old new
-IsWhy d text refused.NoCell old new = WalksAround d text old new
-IsWhy d text refused.OutOfMemory old new = Unit {0}
+abbrev pub IsWhy : DomainState CellLaw → InternError → SeatState View → SeatState View → Type 0
+IsWhy d refused.MakesSpent old new = HasNoMake new.view.core
+IsWhy d refused.AddsSpent old new = IsSpent new.view.core
+IsWhy d refused.Full old new = MissesWithin d old new
+IsWhy d refused.OutOfMemory old new = Unit {0}

@@ -8,7 +8,7 @@
 //! It isn't promised that a call returns: each turn of its loop that doesn't end it lost a cell to another seat.
 //!
 //! ```text
-//! let record = intern(rt, alloc, &domain, &mut seat, b"ab")?;    // or MakesSpent, AddsSpent, Full, NoCell
+//! let record = intern(rt, alloc, &domain, &mut seat, b"ab")?;    // or MakesSpent, AddsSpent, Full
 //! e_drop(&domain, &mut seat, record);                            // its cell keeps it
 //! ```
 #![tactic(auto)]

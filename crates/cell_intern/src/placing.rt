@@ -1,12 +1,14 @@
 //! A record that is made and put into a cell.
 ghost use Rattle.std.specs.Prelude.{◌+◌, IfErr, IfOk, length};
 ghost use Rattle.std.specs.Int.{div_ceil};
+ghost use Rattle.cell_making.specs.cell_calls.Cells.{HasBind};
 ghost use Rattle.cell_making.specs.cell_calls.Keeping.{Keeps};
+ghost use Rattle.cell_making.specs.cell_calls.cell_law.Views.{TellsNone};
 ghost use Rattle.cell_making.specs.Making.{owned_with};
 ghost use Rattle.cell_making.specs.Texts.{text_of};
 ghost use Rattle.cell_finding.specs.Sought.{IsSought};
-ghost use Rattle.cell_intern.specs.Interning.{Grows, Has, IsInRegion};
-ghost use Rattle.cell_intern.specs.Placing.{IsPlaced, owned_then};
+ghost use Rattle.cell_intern.specs.Interning.{Grows, Has, IsInRegion, MakesForBinds};
+ghost use Rattle.cell_intern.specs.Placing.{IsPlaced, IsUnplaced, owned_then};
 ghost use Rattle.cell_making.specs.Bindings.{HasHead};
 ghost use Rattle.cell_finding.specs.Finding.{IsOnWalk};
 ghost use Rattle.cell_making.specs.epoch_refs.epoch_core.core_events.Views.{without};
@@ -31,13 +33,16 @@ pub(crate) fn add<R: Wait>(
     passed: u32,
 ) -> Result<Strong, InternError>
     requires region { IsInRegion domain.now seat.old }
+    requires granted { HasBind seat.old }
     requires sought { IsSought sought.now.text.now sought.now.head sought.now.hash }
     requires walk { IsOnWalk domain.now (text_of sought.now.text.now) passed seat.old }
+    requires untold { TellsNone seat.old.view.client (text_of sought.now.text.now) }
     ensures has { IfOk result (λ head. Has (text_of sought.now.text.now) head.slot seat.new) }
-    ensures refused { IfErr result (λ error. IsWhy domain.now (text_of sought.now.text.now) error
-        seat.old seat.new) }
+    ensures refused { IfErr result (λ error. IsWhy domain.now error seat.old seat.new) }
     ensures grows { Grows (text_of sought.now.text.now) seat.old.view.client
         seat.new.view.client }
+    ensures makes { MakesForBinds domain.now (text_of sought.now.text.now)
+        (div_ceil (length sought.now.text.now) 120) result seat.old seat.new }
     ensures keeps { Keeps (div_ceil (length sought.now.text.now) 120)
         (div_ceil (length sought.now.text.now) 120 + 2)
         (owned_with result seat.old.view.core.owned) seat.old seat.new }
@@ -75,13 +80,16 @@ fn place<R: Wait>(
     candidate: Strong,
 ) -> Result<Option<Strong>, InternError>
     requires region { IsInRegion domain.now seat.old }
+    requires granted { HasBind seat.old }
     requires sought { IsSought sought.now.text.now sought.now.head sought.now.hash }
     requires walk { IsOnWalk domain.now (text_of sought.now.text.now) from seat.old }
+    requires untold { TellsNone seat.old.view.client (text_of sought.now.text.now) }
     requires head { HasHead (text_of sought.now.text.now) candidate.slot seat.old }
-    ensures placed { IfOk result (λ found. IsPlaced (text_of sought.now.text.now) candidate.slot found
-        seat.old seat.new) }
-    ensures refused { IfErr result (λ error. IsWhy domain.now (text_of sought.now.text.now) error
-        seat.old seat.new) }
+    ensures placed { IfOk result (λ found. IsPlaced domain.now (text_of sought.now.text.now)
+        candidate.slot found seat.old seat.new) }
+    ensures unplaced { IfErr result (λ error. IsUnplaced domain.now (text_of sought.now.text.now)
+        error seat.old seat.new) }
+    ensures refused { IfErr result (λ error. IsWhy domain.now error seat.old seat.new) }
     ensures grows { Grows (text_of sought.now.text.now) seat.old.view.client
         seat.new.view.client }
     ensures keeps { Keeps 0 1 (owned_then result (without candidate.slot seat.old.view.core.owned))
@@ -112,10 +120,7 @@ fn place<R: Wait>(
                 };
                 return Ok(Some(record));
             }
-            Walk::Around => {
-                e_drop(domain, seat, head);
-                return Err(InternError::NoCell);
-            }
+            Walk::Around => unreachable!(),
         }
     }
     unreachable!()

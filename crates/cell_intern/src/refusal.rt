@@ -15,8 +15,6 @@ pub enum InternError {
     AddsSpent,
     /// Each slot of the domain was found taken, in the course of the call.
     Full,
-    /// Each cell has the record of another text.
-    NoCell,
     /// There was no memory for the entry of what an exchange may take out of a place.
     OutOfMemory,
 }

@@ -1,6 +1,6 @@
 -- A head goes into a cell, or the cell was taken.
 use Rattle.std.proofs.Common.{◌≡◌, ⊎_elim, inr, ℕ, zero, suc, ◌+◌, ◌-◌, ◌<◌, Bool, true, false, List, ◌∷◌, length, refl, ap, sym, ◌∙◌, subst, arith}
-use Rattle.std.specs.Prelude.{◌==◌, if◌then◌else◌, Err, Option, Result, Some, None}
+use Rattle.std.specs.Prelude.{◌==◌, if◌then◌else◌, Err, Option, Result, Some, None, sum}
 use Rattle.std.proofs.lemmas.Bool.Decides.{nat_tests}
 use Rattle.control_word.specs.counted_handles.Handles.{Handle}
 use Rattle.cell_calls.specs.cell_law.plain_state.declared.slot.SlotId.{SlotId}
@@ -8,9 +8,11 @@ use Rattle.cell_calls.specs.cell_law.directory_law.Cells.{Area, on}
 use Rattle.cell_calls.specs.cell_law.directory_law.Making.{first_noted}
 use Rattle.cell_calls.specs.cell_law.directory_law.Views.{rope}
 use Rattle.cell_calls.specs.cell_law.Making.{BindReady, BindTells, LosesCell, WinsCell, bind_next, binds, sees}
+use Rattle.cell_calls.specs.cell_law.Views.{Unseen}
+use Rattle.cell_calls.specs.cell_law.Walks.{last_sight}
 use Rattle.cell_calls.specs.cell_law.declared.view.View.{View}
 use Rattle.cell_calls.specs.cell_protocol.declared.law.CellLaw.{CellLaw}
-use Rattle.cell_calls.specs.Cells.{IsOver, area_of}
+use Rattle.cell_calls.specs.Cells.{BindsAlone, HasBind, IsOver, area_of}
 use Rattle.cell_calls.specs.Keeping.{Learns}
 use Rattle.epoch_refs.specs.plain_protocol.Owns.{OwnPart}
 use Rattle.epoch_refs.specs.plain_protocol.plain_state.State.{Plain}
@@ -40,7 +42,7 @@ use Rattle.cell_making.proofs.Exchanged.{dates_client, lost_some, put_none}
 use Rattle.cell_making.proofs.Slots.{own_life, owned_has}
 
 module _ (d : DomainState CellLaw) (over : IsOver d) (cell : ℕ) (s : SlotId) (seat : SeatState View)
-    (can : CanBind d cell s seat) where
+    (may : HasBind seat) (can : CanBind d cell s seat) where
   -- the cell is one of the domain
   pub is_there : cell < d.shape.cells
   is_there =
@@ -63,6 +65,7 @@ module _ (d : DomainState CellLaw) (over : IsOver d) (cell : ℕ) (s : SlotId) (
     act_is = ap (λ (p : EventPlace). plain.TryReplace p None (Some s)) at_first;
     some_cells = let cells = over.cells in let some = over.some_cells in omega (arith, cells, some);
     is_open = can.is_open;
+    granted = may;
     owned = can.head.owned;
     is_word = can.head.is_word;
     walked = can.walked;
@@ -89,15 +92,22 @@ module _ (fits : List ℕ → Type 0) (d : DomainState CellLaw) (z : Area)
     (allows : Plain → Plain → ℕ → View → View → Type 0) (cell : ℕ) (s : SlotId)
     (old new : SeatState View) where
   pub bound : TakesOut fits d (bind_next z) allows (act.Cas (Cell cell) None (Some s)) outcome.Done
-      None old new → new.view.client ≡ binds old.view.client
+      None old new → new.view.client ≡ binds (cell - z.first) old.view.client
   bound takes =
       let step = takes.exchange in
       dates_client fits d None takes.between new takes.dates
       ∙ step.told.client
-      ∙ ap (λ (b : Bool). if b then binds takes.ready.view.client
+      ∙ ap (λ (b : Bool). if b then binds (cell - z.first) takes.ready.view.client
       else sees (cell - z.first) step.word takes.ready.view.client)
       (put_none step.word step.answers)
-      ∙ ap (λ (v : EpochSeatView View). binds v.client) takes.reserved.1
+      ∙ ap (λ (v : EpochSeatView View). binds (cell - z.first) v.client) takes.reserved.1
+
+  pub bound_there : z.first ≡ 0
+      → TakesOut fits d (bind_next z) allows (act.Cas (Cell cell) None (Some s)) outcome.Done None old
+      new → new.view.client ≡ binds cell old.view.client
+  bound_there first takes =
+      let e : cell - z.first ≡ cell = omega (arith, first) in
+      bound takes ∙ ap (λ (c : ℕ). binds c old.view.client) e
 
   saw_one : (w : ℕ) (v : View) → (w == 0) ≡ false → z.first ≡ 0
       → (n : ℕ) × (sees (cell - z.first) w v ≡ sees cell (suc n) v)
@@ -124,7 +134,7 @@ module _ (fits : List ℕ → Type 0) (d : DomainState CellLaw) (z : Area)
       let next : new.view.client ≡ sees cell (suc saw.0) old.view.client =
       dates_client fits d None takes.between new takes.dates
       ∙ step.told.client
-      ∙ ap (λ (b : Bool). if b then binds takes.ready.view.client
+      ∙ ap (λ (b : Bool). if b then binds (cell - z.first) takes.ready.view.client
       else sees (cell - z.first) step.word takes.ready.view.client) other
       ∙ ap (λ (v : EpochSeatView View). sees (cell - z.first) step.word v.client) takes.reserved.1
       ∙ saw.1 in
@@ -161,9 +171,9 @@ none_there w is = grind (arith, nat_tests)
 
 module _ (fits : List ℕ → Type 0) (d : DomainState CellLaw) (cell : ℕ) (s : SlotId)
     (old new : SeatState View) where
-  wins : (p q : Plain) (n : ℕ) (v w : View) → w ≡ binds v → BindTells (area_of d.protocol) p q n v w
+  wins : (p q : Plain) (n c : ℕ) (v w : View) → w ≡ binds c v → BindTells (area_of d.protocol) p q n v w
       → WinsCell (area_of d.protocol) p q v w
-  wins p q n v w is tells = ⊎_elim
+  wins p q n c v w is tells = ⊎_elim
       (λ (won : WinsCell (area_of d.protocol) p q v w). won)
       (λ (lost : LosesCell (area_of d.protocol) p q v w).
       absurd (no_longer (first_noted v.noted) v.bound w.bound (ap (λ (x : View). x.bound) is)
@@ -179,7 +189,8 @@ module _ (fits : List ℕ → Type 0) (d : DomainState CellLaw) (cell : ℕ) (s 
       let same = dates_client fits d None takes.between new takes.dates in
       let is = sym same ∙ bound fits d (area_of d.protocol) (BindTells (area_of d.protocol)) cell s
       old new takes
-      ∙ ap (λ (v : EpochSeatView View). binds v.client) (sym takes.reserved.1) in
+      ∙ ap (λ (v : EpochSeatView View). binds (cell - d.protocol.first) v.client)
+      (sym takes.reserved.1) in
       let there : Happened d.shape d.quotas ready.view.core.seat ready.view.core
       (act.Cas (Cell cell) None (Some s)) step.word
       (λ p q. WinsCell (area_of d.protocol) p q ready.view.client takes.between.view.client) =
@@ -189,8 +200,8 @@ module _ (fits : List ℕ → Type 0) (d : DomainState CellLaw) (cell : ℕ) (s 
       × BindTells (area_of d.protocol) p q ready.view.core.seat ready.view.client
       takes.between.view.client)
       (λ p q. WinsCell (area_of d.protocol) p q ready.view.client takes.between.view.client)
-      (λ p q all. wins p q ready.view.core.seat ready.view.client takes.between.view.client is
-      all.2)
+      (λ p q all. wins p q ready.view.core.seat (cell - d.protocol.first) ready.view.client
+      takes.between.view.client is all.2)
       step.told.happened in
       subst (λ (x : ℕ × EpochSeatView View × View).
       Happened d.shape d.quotas x.1.core.seat x.1.core (act.Cas (Cell cell) None (Some s)) x.0
@@ -201,3 +212,38 @@ module _ (fits : List ℕ → Type 0) (d : DomainState CellLaw) (cell : ℕ) (s 
         sym same
             i,
       )) there
+
+  -- where a cell in which nothing was seen was taken, it wasn't all granted to this seat
+  loses : (p q : Plain) (n holder : ℕ) (v w : View) → w ≡ sees cell (suc holder) v
+      → BindTells (area_of d.protocol) p q n v w → Unseen v cell
+      → v.grant < sum (area_of d.protocol).interns
+  loses p q n holder v w is tells unseen = ⊎_elim
+      (λ (won : WinsCell (area_of d.protocol) p q v w).
+      absurd (no_longer (first_noted v.noted) v.bound w.bound (ap (λ (x : View). x.bound) won.next)
+      (ap (λ (x : View). x.bound) is)))
+      (λ (lost : LosesCell (area_of d.protocol) p q v w).
+      let at : lost.at ≡ cell =
+      ap (λ (x : View). (last_sight x.seen).cell) (sym lost.next ∙ is) in
+      lost.other (λ e i some there. unseen e i some (there ∙ at)))
+      tells.1
+
+  pub anothers : (held : Option SlotId) → d.protocol.first ≡ 0
+      → TakesOut fits d (bind_next (area_of d.protocol)) (BindTells (area_of d.protocol))
+      (act.Cas (Cell cell) None (Some s)) (outcome.LostTo held) None old new
+      → Unseen old.view.client cell → ¬ (BindsAlone d old)
+  anothers held first takes unseen alone =
+      let ready = takes.ready in
+      let step = takes.exchange in
+      let same = dates_client fits d None takes.between new takes.dates in
+      let from : ready.view.client ≡ old.view.client =
+      ap (λ (v : EpochSeatView View). v.client) takes.reserved.1 in
+      let sees_one = lost_sees fits d (area_of d.protocol) (BindTells (area_of d.protocol)) cell s old
+      new held first takes in
+      let is : takes.between.view.client ≡ sees cell (suc sees_one.holder) ready.view.client =
+      sym same ∙ sees_one.next
+      ∙ ap (λ (v : View). sees cell (suc sees_one.holder) v) (sym from) in
+      let less = loses _ _ ready.view.core.seat sees_one.holder ready.view.client
+      takes.between.view.client is step.told.happened.fact.2
+      (subst (λ (v : View). Unseen v cell) (sym from) unseen) in
+      let grant = ap (λ (v : View). v.grant) from in
+      omega (arith, less, grant, alone)

@@ -6,7 +6,7 @@ use Rattle.cell_calls.specs.cell_law.directory_law.declared.view.Rope.{Rope}
 use Rattle.cell_calls.specs.cell_law.directory_law.Making.{first_noted}
 use Rattle.cell_calls.specs.cell_law.directory_law.Payloads.{Text}
 use Rattle.cell_calls.specs.cell_law.Making.{binds, other_notes}
-use Rattle.cell_calls.specs.cell_law.Views.{IsWord}
+use Rattle.cell_calls.specs.cell_law.Views.{IsWord, sight}
 use Rattle.cell_calls.specs.cell_law.declared.view.View.{View}
 use Rattle.cell_calls.specs.cell_law.directory_law.Views.{In}
 use Rattle.cell_calls.specs.cell_law.Walks.{SawAll}
@@ -43,16 +43,19 @@ head_stays text makes adds owned s old new head keeps learns still =
           (sym known);
     }
 
-pub head_bound : (text : Text) (s : SlotId) (seat : SeatState View) → (head : HasHead text s seat)
-    → binds seat.view.client
+pub head_bound : (text : Text) (s : SlotId) (cell : ℕ) (seat : SeatState View)
+    → (head : HasHead text s seat)
+    → binds cell seat.view.client
     ≡ record seat.view.client {
       noted = head.others;
       bound = candidate_in s text seat ∷ seat.view.client.bound;
+      seen = sight cell s ∷ seat.view.client.seen;
     }
-head_bound text s seat head =
+head_bound text s cell seat head =
     ap (λ (es : List Rope). record seat.view.client {
       noted = other_notes es;
       bound = first_noted es ∷ seat.view.client.bound;
+      seen = sight cell (first_noted es).slot ∷ seat.view.client.seen;
     }) head.noted
 
 pub made_notes : (text : Text) (n : ℕ) (s : SlotId) (old new : SeatState View)

@@ -3,6 +3,7 @@ pub mod Events
 pub mod Exchanged
 pub mod Slots
 pub mod Notes
+pub mod Fewer
 pub mod Owned
 pub mod Given
 pub mod Linked

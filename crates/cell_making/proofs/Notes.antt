@@ -82,6 +82,7 @@ module _ (d : DomainState CellLaw) where
     misses = is.misses;
     since = goes_then a.view.core b.view.core is.mid.view.core goes is.since;
     till = is.till;
+    fit = is.fit;
   }
   cause_after refused.OutOfMemory a b c goes is = tt
 
@@ -104,6 +105,13 @@ module _ (d : DomainState CellLaw) where
     misses = is.misses;
     since = is.since;
     till = goes_then is.late.view.core b.view.core c.view.core is.till keeps.goes;
+    fit =
+        let fit = is.fit in
+        let used = keeps.makes_used.0 in
+        let q : c.view.core.quota ≡ b.view.core.quota =
+        ap (λ (v : EpochView). v.quota) keeps.same in
+        let n = ap (λ (x : Quota). x.makes) q in
+        omega (arith, fit, used, n);
   }
   cause_on refused.OutOfMemory xs a b c keeps is = tt
 

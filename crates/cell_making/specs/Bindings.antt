@@ -7,11 +7,11 @@ use Rattle.cell_calls.specs.cell_law.directory_law.Cells.{on}
 use Rattle.cell_calls.specs.cell_law.directory_law.declared.view.Rope.{Rope}
 use Rattle.cell_calls.specs.cell_law.directory_law.Payloads.{Text}
 use Rattle.cell_calls.specs.cell_law.Making.{WinsCell, sees}
-use Rattle.cell_calls.specs.cell_law.Views.{IsWord}
+use Rattle.cell_calls.specs.cell_law.Views.{IsWord, Unseen}
 use Rattle.cell_calls.specs.cell_law.declared.view.View.{View}
 use Rattle.cell_calls.specs.cell_law.Walks.{Walked}
 use Rattle.cell_calls.specs.cell_protocol.declared.law.CellLaw.{CellLaw}
-use Rattle.cell_calls.specs.Cells.{area_of}
+use Rattle.cell_calls.specs.Cells.{BindsAlone, area_of}
 use Rattle.cell_calls.specs.Keeping.{Learns}
 use Rattle.epoch_refs.specs.plain_protocol.plain_state.declared.act.EventPlace.TheVariants.{Cell}
 use Rattle.epoch_refs.specs.epoch_core.core_events.Views.{without}
@@ -58,6 +58,11 @@ WinsAt d cell s old new =
 abbrev pub IsBack : ℕ → Handle → BindError → View → View → Type 0
 IsBack cell head (refused.Lost back) v w = (back ≡ head) × SeesHead cell v w
 IsBack cell head (refused.OutOfMemory back) v w = (back ≡ head) × (w ≡ v)
+
+-- where the exchange was lost, and the view had seen nothing in the cell, another seat may put heads into cells too
+abbrev pub IsAnothers : DomainState CellLaw → ℕ → BindError → SeatState View → Type 0
+IsAnothers d cell (refused.Lost back) seat = Unseen seat.view.client cell → ¬ (BindsAlone d seat)
+IsAnothers d cell (refused.OutOfMemory back) seat = Unit {0}
 
 -- the references of a seat that has given up this head, or has it still
 abbrev pub owned_after : Result (Unit {0}) BindError → SlotId → List SlotId → List SlotId

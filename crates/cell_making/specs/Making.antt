@@ -15,7 +15,7 @@ use Rattle.epoch_refs.specs.epoch_rule.Views.{object_in}
 use Rattle.epoch_refs.specs.epoch_domain.Domains.{DomainState}
 use Rattle.epoch_refs.specs.epoch_domain.Seats.{SeatState}
 use Rattle.epoch_refs.specs.Calls.{IsSpent}
-use Rattle.epoch_refs.specs.Making.{HasNoMake}
+use Rattle.epoch_refs.specs.Making.{HasNoMake, SlotsFitMakes}
 use Rattle.epoch_refs.specs.Searching.{IsFull}
 use Rattle.cell_making.specs.declared.refusals.RecordError.{RecordError}
 use Rattle.cell_making.specs.declared.refusals.RecordError.TheVariants as refused
@@ -110,13 +110,15 @@ Links t s old new =
     new.view.client
 
 -- REFUSALS
--- between two states of the call each slot of the domain was found taken
+-- Between two states of the call each slot of the domain was found taken; and there are no more slots than the makes
+-- that this seat has used by the return and those that all other seats were given.
 pub record MissesWithin (d : DomainState CellLaw) (old new : SeatState View) : Type 0 where
   pub mid : SeatState View
   pub late : SeatState View
   pub misses : IsFull IsPiece d mid late
   pub since : GoesOn old.view.core mid.view.core
   pub till : GoesOn late.view.core new.view.core
+  pub fit : SlotsFitMakes d new.view.core
 
 -- what is so where a make was refused
 abbrev pub IsCause : DomainState CellLaw → RecordError → SeatState View → SeatState View → Type 0
@@ -124,6 +126,14 @@ IsCause d refused.MakesSpent old new = HasNoMake new.view.core
 IsCause d refused.AddsSpent old new = IsSpent new.view.core
 IsCause d refused.Full old new = MissesWithin d old new
 IsCause d refused.OutOfMemory old new = Unit {0}
+
+-- fewer makes than n were used where no make or add was left, or each slot was found taken: the slot for which the call
+-- was refused used none
+abbrev pub UsesFewer : RecordError → ℕ → SeatState View → SeatState View → Type 0
+UsesFewer refused.MakesSpent n old new = new.view.core.makes < old.view.core.makes + n
+UsesFewer refused.AddsSpent n old new = new.view.core.makes < old.view.core.makes + n
+UsesFewer refused.Full n old new = new.view.core.makes < old.view.core.makes + n
+UsesFewer refused.OutOfMemory n old new = Unit {0}
 
 -- nothing was made: with this cause, and nothing but the notes of the client's view has changed
 pub record IsRefused (d : DomainState CellLaw) (error : RecordError) (old new : SeatState View)

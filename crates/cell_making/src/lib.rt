@@ -8,7 +8,8 @@
 //!
 //! Each event goes with a deed of `cell_protocol`, so the law of `cell_law` holds between any two events of all seats.
 //! Where a make is refused, what was made so far is given up; a flush destroys it later. Nothing here opens a region:
-//! the walk of a text, without which a head can't be bound, is the caller's.
+//! the walk of a text, without which a head can't be bound, is the caller's, and so is that the seat may put one head
+//! more into a cell.
 //!
 //! ```text
 //! let head = make_record(alloc, &domain, &mut seat, text)?;        // or MakesSpent, AddsSpent, Full, OutOfMemory

@@ -10,7 +10,7 @@ ghost use Rattle.epoch_refs.specs.epoch_core.core_events.Views.{without};
 ghost use Rattle.epoch_refs.specs.epoch_rule.Views.{object_in};
 ghost use Rattle.epoch_refs.specs.Walks.{IsAtRest};
 ghost use Rattle.record_texts.specs.Texts.{parts_after, parts_of, text_of};
-ghost use Rattle.cell_making.specs.Making.{HasMade, HasMadeBefore, HasMadeOne, HasText, HasTwo, IsCause, IsFew, IsRefused, Links, owned_with};
+ghost use Rattle.cell_making.specs.Making.{HasMade, HasMadeBefore, HasMadeOne, HasText, HasTwo, IsCause, IsFew, IsRefused, Links, UsesFewer, owned_with};
 
 use crate::refusals::RecordError;
 use cell_calls::{CellLaw, LinkPart, MakePiece};
@@ -22,8 +22,9 @@ use std::alloc::Global;
 /// it. The head stands nowhere, and is noted last with the whole text.
 ///
 /// `MakesSpent` and `AddsSpent` come where the seat has none left for the next slot, `Full` where a make found all
-/// slots of the domain taken. Where any refusal comes, what was made so far has been given up. One make and one add for
-/// each slot, and at most 19 events more than the domain has slots.
+/// slots of the domain taken; fewer makes were used then than the record has slots. Where any refusal comes, what was
+/// made so far has been given up. One make and one add for each slot, and at most 19 events more than the domain has
+/// slots.
 pub fn make_record(
     alloc: Global,
     domain: &EpochDomain<CellLaw>,
@@ -36,6 +37,8 @@ pub fn make_record(
         head.slot seat.old seat.new) }
     ensures word { IsWord (text_of text.now) }
     ensures refused { IfErr result (λ error. IsRefused domain.now error seat.old seat.new) }
+    ensures fewer { IfErr result (λ error. UsesFewer error (div_ceil (length text.now) 120)
+        seat.old seat.new) }
     ensures keeps { Keeps (div_ceil (length text.now) 120) (div_ceil (length text.now) 120)
         (owned_with result seat.old.view.core.owned) seat.old seat.new }
     ensures events { IsFew (div_ceil (length text.now) 120 * (domain.now.shape.slots + 19))
@@ -63,6 +66,8 @@ fn make_parts(
         (drop 120 text.now)) (parts_after (length text.now)) front.slot seat.old seat.new) }
     ensures part { IfOk result (λ front. IsPart (object_in seat.new.view front.slot).payload) }
     ensures refused { IfErr result (λ error. IsRefused domain.now error seat.old seat.new) }
+    ensures fewer { IfErr result (λ error. UsesFewer error (parts_after (length text.now))
+        seat.old seat.new) }
     ensures keeps { Keeps (parts_after (length text.now)) (parts_after (length text.now))
         (owned_with result seat.old.view.core.owned) seat.old seat.new }
     ensures events { IsFew (parts_after (length text.now) * (domain.now.shape.slots + 19))
@@ -93,6 +98,7 @@ fn make_before(
     ensures made { IfOk result (λ front. HasMadeBefore payload.now rest.slot front.slot seat.old
         seat.new) }
     ensures refused { IfErr result (λ error. IsRefused domain.now error seat.old seat.new) }
+    ensures fewer { IfErr result (λ error. UsesFewer error 1 seat.old seat.new) }
     ensures keeps { Keeps 1 1 (owned_with result (without rest.slot seat.old.view.core.owned))
         seat.old seat.new }
     ensures events { IsFew (domain.now.shape.slots + 19) seat.old seat.new }
@@ -121,6 +127,7 @@ fn link(
     ensures links { IfOk result (λ head. (head ≡ front)
         × Links front.slot rest.slot seat.old seat.new) }
     ensures refused { IfErr result (λ error. IsRefused domain.now error seat.old seat.new) }
+    ensures fewer { IfErr result (λ error. UsesFewer error 0 seat.old seat.new) }
     ensures keeps { Keeps 0 0
         (owned_with result (without front.slot (without rest.slot seat.old.view.core.owned)))
         seat.old seat.new }
@@ -157,6 +164,7 @@ fn make_slot(
     requires piece { IsPiece payload.now }
     ensures made { IfOk result (λ slot. HasMadeOne payload.now slot.slot seat.old seat.new) }
     ensures refused { IfErr result (λ error. IsRefused domain.now error seat.old seat.new) }
+    ensures fewer { IfErr result (λ error. UsesFewer error 1 seat.old seat.new) }
     ensures keeps { Keeps 1 1 (owned_with result seat.old.view.core.owned) seat.old seat.new }
     ensures events { IsFew (domain.now.shape.slots + 17) seat.old seat.new }
     ensures rest { IsAtRest domain.now seat.new }

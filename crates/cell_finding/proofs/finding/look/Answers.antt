@@ -17,16 +17,14 @@ returns-in_default-clause-walked c =
     c.args.seat.now c.head_in.new.seat c.head_in.ensures.looks c.requires.at
 
 pub returns-in_default-clause-sights : goal.returns-in_default-clause-sights
-returns-in_default-clause-sights c = (
-  returns-in_default-clause-walked c,
-  c.head_in.ensures.null (is_none_of c.head_in.result c.in_default.is)
-      (text_of c.args.sought.now.text.now) c.args.passed
-      (cell_is c.args.domain.now c.args.sought.now.text.now c.args.sought.now.head
-      c.args.sought.now.hash c.args.passed c.cell_on-cell.result c.requires.over c.requires.sought
-      (c.cell_on-cell.ensures.cell
-      ∙ ap (λ (z : EpochShape). (c.args.sought.now.hash + c.args.passed) % z.cells) c.shape.ensures))
-      c.requires.at,
-)
+returns-in_default-clause-sights c =
+    c.head_in.ensures.null (is_none_of c.head_in.result c.in_default.is)
+    (text_of c.args.sought.now.text.now) c.args.passed
+    (cell_is c.args.domain.now c.args.sought.now.text.now c.args.sought.now.head
+    c.args.sought.now.hash c.args.passed c.cell_on-cell.result c.requires.over c.requires.sought
+    (c.cell_on-cell.ensures.cell
+    ∙ ap (λ (z : EpochShape). (c.args.sought.now.hash + c.args.passed) % z.cells) c.shape.ensures))
+    c.requires.at
 
 pub returns-in_default-clause-few : goal.returns-in_default-clause-few
 returns-in_default-clause-few c = let few = c.head_in.ensures.looks.few in omega (arith, few)
@@ -120,10 +118,13 @@ returns-clause-walked c =
 
 pub returns-clause-sights : goal.returns-clause-sights
 returns-clause-sights c =
-    found_later c.args.domain.now (text_of c.args.sought.now.text.now) c.in-Some.head 1
-    c.args.seat.now c.head_in.new.seat c.note_found.new.seat c.head_in.ensures.looks
-    (found_later c.args.domain.now (text_of c.args.sought.now.text.now) c.in-Some.head
-    (16 + 17 * parts_after (length c.args.sought.now.text.now)) c.head_in.new.seat
-    c.has_text.new.seat c.note_found.new.seat c.has_text.ensures.looks
-    (c.note_found.ensures.found (text_of c.args.sought.now.text.now)
-    (c.has_text.ensures.whole c.if-not-has_text.false)))
+    let found = c.note_found.ensures.found (text_of c.args.sought.now.text.now)
+    (c.has_text.ensures.whole c.if-not-has_text.false) in (
+      found_later c.args.domain.now (text_of c.args.sought.now.text.now) c.in-Some.head 1
+          c.args.seat.now c.head_in.new.seat c.note_found.new.seat c.head_in.ensures.looks
+          (found_later c.args.domain.now (text_of c.args.sought.now.text.now) c.in-Some.head
+          (16 + 17 * parts_after (length c.args.sought.now.text.now)) c.head_in.new.seat
+          c.has_text.new.seat c.note_found.new.seat c.has_text.ensures.looks
+          found.0),
+      found.1,
+    )

@@ -3,7 +3,7 @@ use Rattle.epoch_domain.specs.epoch_core.declared.shape.EpochShape.{EpochShape}
 use Rattle.record_texts.specs.Texts.{parts_after, text_of}
 use Rattle.cell_finding.specs.Finding.{IsOnWalk}
 use Rattle.cell_finding.proofs.Looks.{looked}
-use Rattle.cell_finding.proofs.Walking.{null_later, walk_still, way_few, way_goes_on, way_looks}
+use Rattle.cell_finding.proofs.Walking.{around_later, around_looks, null_later, walk_still, way_few, way_goes_on, way_looks}
 use Rattle.cell_finding.proofs.finding.seek.Goals as goal
 
 -- NULL
@@ -13,12 +13,11 @@ returns-in-Null-clause-ends c =
     let low = c.loop-passed-test.true in (
       c.loop-passed.invariant.behind,
       omega (arith, cells, low),
-      c.in-Null.ensures.sights.0,
       null_later c.args.domain.now (text_of c.args.sought.now.text.now) c.loop-passed.passed
           ((c.loop-passed.passed - c.args.from)
           * (18 + 17 * parts_after (length c.args.sought.now.text.now)))
           c.args.seat.now c.loop-passed.seat c.look.new.seat c.loop-passed.invariant.looks
-          c.in-Null.ensures.sights.1,
+          c.in-Null.ensures.sights,
     )
 
 pub returns-in-Null-clause-learns : goal.returns-in-Null-clause-learns
@@ -41,12 +40,13 @@ pub returns-in-Null-clause-few : goal.returns-in-Null-clause-few
 returns-in-Null-clause-few c =
     let cells = c.shape-passed-end.ensures in
     let low = c.loop-passed-test.true in
-    way_few c.args.domain.now (text_of c.args.sought.now.text.now)
+    let few = way_few c.args.domain.now (text_of c.args.sought.now.text.now)
     (18 + 17 * parts_after (length c.args.sought.now.text.now)) c.args.from c.loop-passed.passed
     c.args.seat.now c.loop-passed.seat c.look.new.seat c.loop-passed.invariant
     (looked (18 + 17 * parts_after (length c.args.sought.now.text.now)) c.loop-passed.seat
     c.look.new.seat c.look.ensures.keeps c.look.ensures.learns c.look.ensures.few)
-    c.args.domain.now.shape.cells (omega (arith, ap (λ (z : EpochShape). z.cells) cells, low))
+    c.args.domain.now.shape.cells (omega (arith, ap (λ (z : EpochShape). z.cells) cells, low)) in
+    omega (arith, few)
 
 pub returns-in-Null-clause-walked : goal.returns-in-Null-clause-walked
 returns-in-Null-clause-walked c =
@@ -82,12 +82,13 @@ pub returns-in-Record-clause-few : goal.returns-in-Record-clause-few
 returns-in-Record-clause-few c =
     let cells = c.shape-passed-end.ensures in
     let low = c.loop-passed-test.true in
-    way_few c.args.domain.now (text_of c.args.sought.now.text.now)
+    let few = way_few c.args.domain.now (text_of c.args.sought.now.text.now)
     (18 + 17 * parts_after (length c.args.sought.now.text.now)) c.args.from c.loop-passed.passed
     c.args.seat.now c.loop-passed.seat c.look.new.seat c.loop-passed.invariant
     (looked (18 + 17 * parts_after (length c.args.sought.now.text.now)) c.loop-passed.seat
     c.look.new.seat c.look.ensures.keeps c.look.ensures.learns c.look.ensures.few)
-    c.args.domain.now.shape.cells (omega (arith, ap (λ (z : EpochShape). z.cells) cells, low))
+    c.args.domain.now.shape.cells (omega (arith, ap (λ (z : EpochShape). z.cells) cells, low)) in
+    omega (arith, few)
 
 pub returns-in-Record-clause-walked : goal.returns-in-Record-clause-walked
 returns-in-Record-clause-walked c =
@@ -118,12 +119,42 @@ returns-clause-ends c =
     let cells = ap (λ (z : EpochShape). z.cells) c.shape-passed-end.ensures in
     let high = c.loop-passed-test.false in
     let end = c.loop-passed.auto.passed-end in
-    subst (λ (n : ℕ). IsOnWalk c.args.domain.now (text_of c.args.sought.now.text.now) n
-    c.loop-passed.seat) (omega (arith, cells, high, end)) c.loop-passed.invariant.walk
+    around_later c.args.domain.now (text_of c.args.sought.now.text.now)
+    ((c.loop-passed.passed - c.args.from)
+    * (18 + 17 * parts_after (length c.args.sought.now.text.now)))
+    c.args.seat.now c.loop-passed.seat c.head_in.new.seat c.loop-passed.invariant.looks
+    (c.head_in.ensures.around (text_of c.args.sought.now.text.now)
+    (subst (λ (n : ℕ). IsOnWalk c.args.domain.now (text_of c.args.sought.now.text.now) n
+    c.loop-passed.seat) (omega (arith, cells, high, end)) c.loop-passed.invariant.walk))
+
+pub returns-clause-learns : goal.returns-clause-learns
+returns-clause-learns c =
+    (around_looks c.args.domain.now (text_of c.args.sought.now.text.now)
+    (18 + 17 * parts_after (length c.args.sought.now.text.now)) c.args.from c.loop-passed.passed
+    c.args.seat.now c.loop-passed.seat c.head_in.new.seat c.loop-passed.invariant
+    c.head_in.ensures.looks).learns
+
+pub returns-clause-keeps : goal.returns-clause-keeps
+returns-clause-keeps c =
+    (around_looks c.args.domain.now (text_of c.args.sought.now.text.now)
+    (18 + 17 * parts_after (length c.args.sought.now.text.now)) c.args.from c.loop-passed.passed
+    c.args.seat.now c.loop-passed.seat c.head_in.new.seat c.loop-passed.invariant
+    c.head_in.ensures.looks).keeps
+
+pub returns-clause-few : goal.returns-clause-few
+returns-clause-few c =
+    (around_looks c.args.domain.now (text_of c.args.sought.now.text.now)
+    (18 + 17 * parts_after (length c.args.sought.now.text.now)) c.args.from c.loop-passed.passed
+    c.args.seat.now c.loop-passed.seat c.head_in.new.seat c.loop-passed.invariant
+    c.head_in.ensures.looks).few
 
 pub returns-clause-walked : goal.returns-clause-walked
 returns-clause-walked c =
     walk_still c.args.domain.now (text_of c.args.sought.now.text.now) c.args.from
-    ((c.loop-passed.passed - c.args.from)
-    * (18 + 17 * parts_after (length c.args.sought.now.text.now)))
-    c.args.seat.now c.loop-passed.seat c.loop-passed.invariant.looks c.requires.at
+    ((c.args.domain.now.shape.cells - c.args.from)
+    * (18 + 17 * parts_after (length c.args.sought.now.text.now)) + 1)
+    c.args.seat.now c.head_in.new.seat
+    (around_looks c.args.domain.now (text_of c.args.sought.now.text.now)
+    (18 + 17 * parts_after (length c.args.sought.now.text.now)) c.args.from c.loop-passed.passed
+    c.args.seat.now c.loop-passed.seat c.head_in.new.seat c.loop-passed.invariant
+    c.head_in.ensures.looks) c.requires.at

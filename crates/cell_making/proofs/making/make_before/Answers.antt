@@ -3,6 +3,7 @@ use Rattle.cell_calls.specs.cell_law.directory_law.Bytes.{IsPiece}
 use Rattle.epoch_refs.specs.epoch_core.core_events.Views.{without}
 use Rattle.cell_making.proofs.Before.{before_if, has_two}
 use Rattle.cell_making.proofs.Events.{drop_event}
+use Rattle.cell_making.proofs.Fewer.{fewer_if, fewer_on}
 use Rattle.cell_making.proofs.Given.{one_dropped}
 use Rattle.cell_making.proofs.Kept.{drop_client, drop_keeps}
 use Rattle.cell_making.proofs.Notes.{only_by, refused_if, refused_on}
@@ -59,3 +60,16 @@ returns-in-Err-clause-events c =
     let dropped = drop_event IsPiece c.args.domain.now c.make_slot.new.seat c.e_drop.new.seat
     c.args.rest.slot c.e_drop.ensures.dropped.0 c.e_drop.ensures.dropped.1 in
     omega (arith, c.make_slot.ensures.events, dropped)
+
+pub returns-in-Ok-clause-fewer : goal.returns-in-Ok-clause-fewer
+returns-in-Ok-clause-fewer c =
+    fewer_if c.link.result 1 0 1 c.args.seat.now c.make_slot.new.seat c.link.new.seat
+    c.in-Ok.ensures.keeps.makes_used.1 (omega arith) c.link.ensures.fewer
+
+pub returns-in-Err-clause-fewer : goal.returns-in-Err-clause-fewer
+returns-in-Err-clause-fewer c =
+    fewer_on c.in-Err.error 1 (without c.args.rest.slot c.make_slot.new.seat.view.core.owned)
+    c.args.seat.now c.make_slot.new.seat c.e_drop.new.seat
+    (drop_keeps IsPiece c.args.domain.now c.make_slot.new.seat c.e_drop.new.seat
+    c.args.rest.slot c.e_drop.ensures.dropped.0 c.e_drop.ensures.dropped.1)
+    c.in-Err.ensures.fewer

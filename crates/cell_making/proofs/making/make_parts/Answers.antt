@@ -5,6 +5,7 @@ use Rattle.record_texts.specs.Texts.{parts_after}
 use Rattle.record_texts.proofs.Packed.{part_at_is, part_piece}
 use Rattle.cell_making.proofs.Chained.{chain_count, chain_events, chain_first, chain_keeps, chain_on, chain_refused, chain_text, offset}
 use Rattle.cell_making.proofs.Events.{few_less}
+use Rattle.cell_making.proofs.Fewer.{fewer_after, fewer_again}
 use Rattle.cell_making.proofs.Notes.{refused_again}
 use Rattle.cell_making.proofs.Owned.{none_with}
 use Rattle.cell_making.proofs.making.make_parts.Goals as goal
@@ -92,3 +93,19 @@ returns-clause-events c =
     chain_count c.args.domain.now c.args.text.now c.part_at.result c.args.seat.now
     c.loop-made.seat c.loop-made.made c.loop-made.front.slot c.loop-made.invariant
     (omega (arith, c.requires.text.0, c.loop-made-test.false, c.loop-made.auto.made-end))
+
+pub returns-in_err-front-clause-fewer : goal.returns-in_err-front-clause-fewer
+returns-in_err-front-clause-fewer c =
+    fewer_again c.from_residual.result _ (parts_after (length c.args.text.now))
+    c.args.seat.now c.make_slot.new.seat c.from_residual.ensures.1
+    (fewer_after _ 0 1 (parts_after (length c.args.text.now)) c.args.seat.now c.args.seat.now
+    c.make_slot.new.seat (omega arith) (omega (arith, c.requires.text.0))
+    c.in_err-front.ensures.fewer)
+
+pub returns-in_err-front-2-clause-fewer : goal.returns-in_err-front-2-clause-fewer
+returns-in_err-front-2-clause-fewer c =
+    fewer_again c.from_residual-in_err-front-2.result _ (parts_after (length c.args.text.now))
+    c.args.seat.now c.make_before.new.seat c.from_residual-in_err-front-2.ensures.1
+    (fewer_after _ c.loop-made.made 1 (parts_after (length c.args.text.now)) c.args.seat.now
+    c.loop-made.seat c.make_before.new.seat c.loop-made.invariant.keeps.makes_used.1
+    (omega (arith, c.requires.text.0, c.loop-made-test.true)) c.in_err-front-2.ensures.fewer)

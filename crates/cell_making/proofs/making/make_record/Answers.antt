@@ -7,6 +7,7 @@ use Rattle.record_texts.proofs.Packed.{begins_so, bytes_small, head_piece, is_te
 use Rattle.cell_making.specs.Making.{owned_with}
 use Rattle.cell_making.proofs.Before.{alone_if, has_text, more_if}
 use Rattle.cell_making.proofs.Events.{few_less, few_more, few_one}
+use Rattle.cell_making.proofs.Fewer.{fewer_after, fewer_again, fewer_if}
 use Rattle.cell_making.proofs.Owned.{taken_over}
 use Rattle.cell_making.proofs.making.make_record.Goals as goal
 
@@ -101,3 +102,24 @@ returns-clause-events c =
     (length c.make_parts.new.seat.view.core.trail)
     (length c.make_before.new.seat.view.core.trail) (omega (arith, c.if-text-le120.false))
     c.make_parts.ensures.events c.make_before.ensures.events
+
+pub returns-then-text-le120-clause-fewer : goal.returns-then-text-le120-clause-fewer
+returns-then-text-le120-clause-fewer c =
+    fewer_if c.make_slot.result 0 1 (div_ceil (length c.args.text.now) 120) c.args.seat.now
+    c.args.seat.now c.make_slot.new.seat (omega arith)
+    (omega (arith, c.requires.text.0, c.if-text-le120.true)) c.make_slot.ensures.fewer
+
+pub returns-in_err-rest-clause-fewer : goal.returns-in_err-rest-clause-fewer
+returns-in_err-rest-clause-fewer c =
+    fewer_again c.from_residual.result _ (div_ceil (length c.args.text.now) 120)
+    c.args.seat.now c.make_parts.new.seat c.from_residual.ensures.1
+    (fewer_after _ 0 (parts_after (length c.args.text.now)) (div_ceil (length c.args.text.now) 120)
+    c.args.seat.now c.args.seat.now c.make_parts.new.seat (omega arith)
+    (omega (arith, c.if-text-le120.false)) c.in_err-rest.ensures.fewer)
+
+pub returns-clause-fewer : goal.returns-clause-fewer
+returns-clause-fewer c =
+    fewer_if c.make_before.result (parts_after (length c.args.text.now)) 1
+    (div_ceil (length c.args.text.now) 120) c.args.seat.now c.make_parts.new.seat
+    c.make_before.new.seat c.in_ok-rest.ensures.keeps.makes_used.1
+    (omega (arith, c.if-text-le120.false)) c.make_before.ensures.fewer

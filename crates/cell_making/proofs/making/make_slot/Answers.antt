@@ -35,3 +35,9 @@ pub returns-in-Err-Full-clause-events : goal.returns-in-Err-Full-clause-events
 returns-in-Err-Full-clause-events c =
     full_events IsPiece c.args.domain.now c.args.seat.now c.e_make.new.seat
     (c.e_make.ensures.full (c.in-Err-Full.is ∙ ap (λ e. Err e) c.in-Err-Full.field-0-is))
+
+pub returns-in-Err-Full-clause-fewer : goal.returns-in-Err-Full-clause-fewer
+returns-in-Err-Full-clause-fewer c =
+    let used = (full_keeps IsPiece c.args.domain.now c.args.seat.now c.e_make.new.seat
+    (c.e_make.ensures.full (c.in-Err-Full.is ∙ ap (λ e. Err e) c.in-Err-Full.field-0-is))
+    c.e_make.ensures.objects).makes_used.1 in omega (arith, used)
