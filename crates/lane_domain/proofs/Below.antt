@@ -12,3 +12,6 @@ pub use Rattle.lane_files.proofs.Scanned as lane_files_Scanned
 pub use Rattle.lane_files.proofs.SeatsKept as lane_files_SeatsKept
 pub use Rattle.lane_files.proofs.Tidied as lane_files_Tidied
 pub use Rattle.lane_files.proofs.Below.lane_gate_Known as lane_gate_Known
+pub use Rattle.lane_files.proofs.Below.lane_work_Limits as lane_work_Limits
+pub use Rattle.lane_files.proofs.Below.lane_work_Pieces as lane_work_Pieces
+pub use Rattle.lane_files.proofs.Below.lane_work_Sums as lane_work_Sums

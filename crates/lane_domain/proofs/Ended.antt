@@ -6,10 +6,10 @@ use Rattle.lane_files.specs.acquire_retire.Domains.{DomainState}
 use Rattle.lane_files.specs.acquire_retire.Seats.{SeatState}
 use Rattle.lane_files.specs.words_law.Views.{View}
 use Rattle.lane_files.specs.words_protocol.declared.law.WordsLaw.{WordsLaw}
-use Rattle.lane_files.specs.declared.lane.Lane.{Lane}
+use Rattle.lane_files.specs.lane_work.declared.lane.Lane.{Lane}
 use Rattle.lane_files.specs.declared.refusal.LaneStop.{LaneStop}
 use Rattle.lane_files.specs.declared.refusal.LaneStop.TheVariants as stopped
-use Rattle.lane_files.specs.declared.work.Work.{Work}
+use Rattle.lane_files.specs.lane_work.declared.work.Work.{Work}
 use Rattle.lane_files.specs.Counting.{StopsInFile}
 use Rattle.lane_files.specs.Lanes.{IsWhyStopped, RunsLane, StopsLane, beside_tickets}
 use Rattle.lane_files.specs.Work.{words_of}

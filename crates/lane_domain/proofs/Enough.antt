@@ -14,9 +14,9 @@ use Rattle.lane_files.specs.words_law.Views.{View}
 use Rattle.lane_files.specs.words_protocol.declared.law.WordsLaw.{WordsLaw}
 use Rattle.lane_files.specs.Missing.{HasMissed}
 use Rattle.lane_files.specs.Whys.{of_queue, queue_of}
-use Rattle.lane_files.specs.declared.lane.Lane.{Lane}
+use Rattle.lane_files.specs.lane_work.declared.lane.Lane.{Lane}
 use Rattle.lane_files.specs.declared.refusal.LaneStop.{LaneStop}
-use Rattle.lane_files.specs.declared.work.Work.{Work}
+use Rattle.lane_files.specs.lane_work.declared.work.Work.{Work}
 use Rattle.lane_files.specs.Lanes.{StopsLane}
 use Rattle.lane_files.specs.Makes.{GrantsMakes, HasItsMakes, cause_of}
 use Rattle.lane_files.proofs.Enough.{more_makes, never_spent}

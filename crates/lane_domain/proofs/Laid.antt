@@ -42,7 +42,7 @@ use Rattle.lane_files.specs.declared.shared.Shared.{Shared}
 use Rattle.lane_files.specs.Ready.{IsReady}
 use Rattle.lane_files.specs.Whys.{of_queue, queue_of}
 use Rattle.lane_files.proofs.SeatsKept.{free_still, owns_queue}
-use Rattle.lane_files.specs.declared.work.Work.{Work}
+use Rattle.lane_files.specs.lane_work.declared.work.Work.{Work}
 use Rattle.lane_files.specs.Lanes.{HasGrants}
 use Rattle.lane_domain.specs.Opened.{FindsNoSlot, HasOnlyLaid, IsDomainFor, IsDomainForSome, IsQueueHere, fresh_seat, root_quota}
 use Rattle.lane_domain.specs.Sizes.{interns_of}

@@ -1,6 +1,4 @@
 pub mod Below
-pub mod Sums
-pub mod Limits
 pub mod Shapes
 pub mod Laid
 pub mod SeatsOpened

@@ -10,7 +10,7 @@ use Rattle.lane_files.specs.words_law.Views.{View}
 use Rattle.lane_files.specs.words_protocol.declared.law.WordsLaw.{WordsLaw}
 use Rattle.lane_files.specs.declared.shared.Shared.{Shared}
 use Rattle.lane_files.specs.Ready.{IsReady}
-use Rattle.lane_files.specs.declared.work.Work.{Work}
+use Rattle.lane_files.specs.lane_work.declared.work.Work.{Work}
 use Rattle.lane_domain.specs.Opened.{IsDomainFor, IsDomainForSome, fresh_lanes, fresh_seat}
 use Rattle.lane_domain.specs.Sizes.{IsWithinLimits}
 use Rattle.lane_domain.proofs.Laid.{no_intern, rests, seats_there, times_none}

@@ -16,12 +16,12 @@ use Rattle.lane_files.specs.acquire_retire.Domains.{DomainState}
 use Rattle.lane_files.specs.words_protocol.declared.law.WordsLaw.{WordsLaw}
 use Rattle.lane_files.specs.claim_law.Claims.{makes_given}
 use Rattle.lane_files.specs.cdrc_text.Fold.{File}
-use Rattle.lane_files.specs.declared.work.Work.{Work}
+use Rattle.lane_files.specs.lane_work.declared.work.Work.{Work}
 use Rattle.lane_files.specs.Work.{all_tickets}
 use Rattle.lane_files.specs.queue_law.declared.view.Form.{Form}
 use Rattle.lane_domain.specs.Opened.{IsDomainFor, cells_for, lane_quota, root_quota, shape_for, terms_for}
 use Rattle.lane_domain.specs.Sizes.{IsWithinLimits, all_parts, all_pieces, by_ticket, interns_of, makes_of, slots_of_words, texts_in}
-use Rattle.lane_domain.proofs.Sums.{is_sum, of_rounds, sum_of_both}
+use Rattle.lane_domain.proofs.Below.lane_work_Sums.{is_sum, of_rounds, sum_of_both}
 
 -- all interns, and all makes that tickets grant
 pub interns_are : (work : Work) → sum (by_ticket (interns_of work) work)

@@ -18,7 +18,7 @@ use Rattle.lane_files.specs.words_law.Views.{View}
 use Rattle.lane_files.specs.words_protocol.declared.law.WordsLaw.{WordsLaw}
 use Rattle.lane_files.specs.declared.shared.Shared.{Shared}
 use Rattle.lane_files.specs.Whys.{of_queue, queue_of}
-use Rattle.lane_files.specs.declared.lane.Lane.{Lane}
+use Rattle.lane_files.specs.lane_work.declared.lane.Lane.{Lane}
 
 -- The seat owns nothing and announces nothing, has drawn no ticket, and has pushed and popped nothing. It has no
 -- intern, and knows nothing of the directory.

@@ -6,9 +6,9 @@ use Rattle.lane_files.specs.words_law.Views.{View}
 use Rattle.lane_files.specs.words_protocol.declared.law.WordsLaw.{WordsLaw}
 use Rattle.lane_files.specs.declared.shared.Shared.{Shared}
 use Rattle.lane_files.specs.Ready.{IsReady}
-use Rattle.lane_files.specs.declared.lane.Lane.{Lane}
+use Rattle.lane_files.specs.lane_work.declared.lane.Lane.{Lane}
 use Rattle.lane_files.specs.declared.refusal.LaneStop.{LaneStop}
-use Rattle.lane_files.specs.declared.work.Work.{Work}
+use Rattle.lane_files.specs.lane_work.declared.work.Work.{Work}
 use Rattle.lane_files.specs.Lanes.{RunsLane, StopsLane, beside_tickets}
 use Rattle.lane_domain.specs.declared.ending.LaneEnd.{LaneEnd}
 use Rattle.lane_domain.specs.Beginning.{Attaches, IsNewLane}

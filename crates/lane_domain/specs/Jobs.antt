@@ -8,7 +8,7 @@ use Rattle.lane_files.specs.directory_law.Bytes.{IsPiece, piece_weight}
 use Rattle.lane_files.specs.words_law.Views.{View}
 use Rattle.lane_files.specs.words_protocol.declared.law.WordsLaw.{WordsLaw}
 use Rattle.lane_files.specs.declared.shared.Shared.{Shared}
-use Rattle.lane_files.specs.declared.work.Work.{Work}
+use Rattle.lane_files.specs.lane_work.declared.work.Work.{Work}
 use Rattle.lane_domain.specs.declared.ending.LaneEnd.{LaneEnd}
 use Rattle.lane_domain.specs.Ending.{EndsLane}
 use Rattle.lane_domain.specs.declared.jobs.Job.{Job}

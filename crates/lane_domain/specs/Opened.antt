@@ -23,7 +23,7 @@ use Rattle.lane_files.specs.words_law.Owned.{first_view}
 use Rattle.lane_files.specs.words_law.Views.{View}
 use Rattle.lane_files.specs.words_protocol.Sides.{area_of, ends_of}
 use Rattle.lane_files.specs.words_protocol.declared.law.WordsLaw.{WordsLaw}
-use Rattle.lane_files.specs.declared.work.Work.{Work}
+use Rattle.lane_files.specs.lane_work.declared.work.Work.{Work}
 use Rattle.lane_files.specs.slot_store.Searching.{Misses}
 use Rattle.lane_files.specs.Missing.{HasMissed}
 use Rattle.lane_files.specs.Whys.{of_queue, queue_of}

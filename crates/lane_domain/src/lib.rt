@@ -21,14 +21,14 @@ mod laws;
 mod opened;
 mod opening;
 mod running;
-mod sizes;
 mod tickets;
 
 pub use ending::LaneEnd;
 pub use lane_files::{
     FileError, FileFault, FileText, Files, Gate, HandQueue, HonestFiles, HonestSink, HostFiles,
     HostSink, Lane, LaneError, LaneStop, Meet, MemFiles, MemSink, NodeKind, Open, PieceError,
-    RecordKind, Shared, Sink, SinkFault, WordsLaw, Work, find, pairs_have_pieces, take_one,
+    RecordKind, Shared, Sink, SinkFault, WordsLaw, Work, count_parts, count_pieces, count_slots,
+    find, is_within_limits, pairs_have_pieces, take_one,
 };
 pub use laws::{
     attached_seats_have_makes, full_domains_lack_slots, lanes_have_makes, opened_seats_can_begin,
@@ -36,4 +36,3 @@ pub use laws::{
 pub use opened::{OpenLanesError, Opened, Unlaid};
 pub use opening::open_lanes;
 pub use running::run_lanes;
-pub use sizes::{count_parts, count_pieces, count_slots, is_within_limits};

@@ -11,12 +11,11 @@ ghost use Rattle.lane_domain.specs.Opened.{FindsNoSlot, HasOnlyLaid, IsDirectory
 ghost use Rattle.lane_domain.specs.Sizes.{IsWithinLimits, all_pieces, most_lanes};
 
 use crate::opened::{OpenLanesError, Opened, Unlaid};
-use crate::sizes::count_pieces;
 use crate::tickets::{list_interns, list_makes};
 use lane_files::{
     AnyQueue, Directory, DirectoryLaw, Domain, Form, Left, MakeError, NodeKind, OpenError,
     OutOfMemory, PairKind, PayloadKind, QueueLaw, Quota, RecordKind, Seat, Shape, Shared, WordsLaw,
-    Work, open_granted,
+    Work, count_pieces, open_granted,
 };
 use std::alloc::Global;
 

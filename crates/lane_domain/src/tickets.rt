@@ -3,8 +3,7 @@ ghost use Rattle.std.specs.Prelude.{◌≡◌, IfOk};
 ghost use Rattle.lane_files.specs.Work.{IsWork};
 ghost use Rattle.lane_domain.specs.Sizes.{by_ticket, interns_of, makes_of};
 
-use crate::sizes::count_parts;
-use lane_files::{OutOfMemory, Work};
+use lane_files::{OutOfMemory, Work, count_parts};
 use std::alloc::Global;
 
 /// The interns of each ticket: a number for each, which is how many pieces its file has. A step for each ticket.

@@ -14,7 +14,7 @@ use Rattle.words_protocol.specs.words_law.Views.{View}
 use Rattle.lane_files.specs.Passed.{Takes, UsesInterns}
 use Rattle.lane_files.proofs.PiecesCounted.{counts_then, tallies_then, takes_none}
 use Rattle.lane_files.proofs.SeatsKept.{owns_as, owns_none, owns_then, uses_none, uses_then}
-use Rattle.lane_files.specs.declared.lane.Lane.{Lane}
+use Rattle.lane_files.specs.lane_work.declared.lane.Lane.{Lane}
 use Rattle.lane_files.specs.Counting.{CountsFile, IsWhyStopped, KeepsRecords}
 use Rattle.lane_files.specs.declared.refusal.FileError.{FileError}
 use Rattle.lane_files.specs.declared.refusal.FileError.TheVariants as refused

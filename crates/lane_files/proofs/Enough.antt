@@ -12,11 +12,11 @@ use Rattle.words_protocol.specs.cdrc_text.Text.{slots_of_word}
 use Rattle.words_protocol.specs.words_law.Views.{View}
 use Rattle.words_protocol.specs.declared.law.WordsLaw.{WordsLaw}
 use Rattle.lane_files.specs.PieceMakes.{LacksMake}
-use Rattle.lane_files.specs.declared.lane.Lane.{Lane}
+use Rattle.lane_files.specs.lane_work.declared.lane.Lane.{Lane}
 use Rattle.lane_files.specs.declared.refusal.FileError.{FileError}
 use Rattle.lane_files.specs.declared.refusal.LaneStop.{LaneStop}
 use Rattle.lane_files.specs.declared.refusal.LaneStop.TheVariants as stopped
-use Rattle.lane_files.specs.declared.work.Work.{Work}
+use Rattle.lane_files.specs.lane_work.declared.work.Work.{Work}
 use Rattle.lane_files.specs.Lanes.{StopsLane, beside_tickets}
 use Rattle.lane_files.specs.Makes.{GrantsMakes, HasItsMakes, cause_at, cause_of}
 use Rattle.lane_files.specs.Work.{words_of}

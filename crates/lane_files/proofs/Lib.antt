@@ -22,7 +22,6 @@ pub mod Making
 pub mod Missing
 pub mod Nexts
 pub mod Owning
-pub mod Pieces
 pub mod Records
 pub mod Runs
 pub mod Tickets

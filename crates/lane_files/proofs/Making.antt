@@ -6,7 +6,7 @@ use Rattle.std.proofs.lemmas.List.{length-append, length-take-le, take_more}
 use Rattle.std.proofs.lemmas.List.Sums.{sum_by-append, sum_by-cons, sum_by-take-le}
 use Rattle.control_word.specs.core_events.Views.{granted}
 use Rattle.words_protocol.specs.cdrc_text.Text.{slots_of_word}
-use Rattle.lane_files.specs.declared.work.Work.{Work}
+use Rattle.lane_files.specs.lane_work.declared.work.Work.{Work}
 use Rattle.lane_files.specs.Makes.{GrantsMakes, makes_for}
 use Rattle.lane_files.specs.Work.{all_tickets, words_of, words_of_all}
 

@@ -12,14 +12,14 @@ use Rattle.hand_queues.specs.slot_store.declared.making.MakeError.{MakeError}
 use Rattle.hand_queues.specs.slot_store.declared.making.MakeError.TheVariants as unmade
 use Rattle.words_protocol.specs.words_law.Views.{View}
 use Rattle.words_protocol.specs.declared.law.WordsLaw.{WordsLaw}
-use Rattle.lane_files.specs.declared.lane.Lane.{Lane}
+use Rattle.lane_files.specs.lane_work.declared.lane.Lane.{Lane}
 use Rattle.lane_files.specs.declared.refusal.FileError.TheVariants as unread
 use Rattle.lane_files.specs.declared.refusal.LaneError.TheVariants as untaken
 use Rattle.lane_files.specs.declared.refusal.LaneStop.{LaneStop}
 use Rattle.lane_files.specs.declared.refusal.LaneStop.TheVariants as stopped
 use Rattle.lane_files.specs.declared.refusal.PieceError.{PieceError}
 use Rattle.lane_files.specs.declared.refusal.PieceError.TheVariants as uncounted
-use Rattle.lane_files.specs.declared.work.Work.{Work}
+use Rattle.lane_files.specs.lane_work.declared.work.Work.{Work}
 use Rattle.lane_files.specs.Lanes.{StopsLane}
 use Rattle.lane_files.specs.Makes.{cause_of}
 use Rattle.lane_files.specs.Missing.{HasMissed}

@@ -12,7 +12,7 @@ use Rattle.lane_files.specs.Passed.{Takes, UsesInterns}
 use Rattle.lane_files.specs.Ready.{Owns}
 use Rattle.lane_files.specs.Scans.{scans_of}
 use Rattle.lane_files.proofs.Offered.{texts}
-use Rattle.lane_files.specs.declared.lane.Lane.{Lane}
+use Rattle.lane_files.specs.lane_work.declared.lane.Lane.{Lane}
 use Rattle.lane_files.specs.Keeping.{KeepsOne, has}
 use Rattle.lane_files.specs.Next.{CountsNext}
 use Rattle.lane_files.proofs.Kept.{owns_next, still_known}

@@ -15,10 +15,10 @@ use Rattle.weak_intern.specs.Drawing.{Draws}
 use Rattle.words_protocol.specs.words_law.Views.{View}
 use Rattle.words_protocol.specs.declared.law.WordsLaw.{WordsLaw}
 use Rattle.lane_files.proofs.PiecesCounted.{takes_none}
-use Rattle.lane_files.specs.declared.lane.Lane.{Lane}
+use Rattle.lane_files.specs.lane_work.declared.lane.Lane.{Lane}
 use Rattle.lane_files.specs.declared.refusal.FileError.{FileError}
 use Rattle.lane_files.specs.declared.refusal.LaneStop.TheVariants as stopped
-use Rattle.lane_files.specs.declared.work.Work.{Work}
+use Rattle.lane_files.specs.lane_work.declared.work.Work.{Work}
 use Rattle.lane_files.specs.Counting.{StopsInFile}
 use Rattle.lane_files.specs.Lanes.{CountsTickets, RunsLane, StopsLane}
 use Rattle.lane_files.specs.Makes.{makes_for}

@@ -16,8 +16,8 @@ use Rattle.words_protocol.specs.declared.law.WordsLaw.{WordsLaw}
 use Rattle.words_protocol.specs.words_law.Known.{ForgetsNothing}
 use Rattle.words_protocol.specs.words_law.Views.{View}
 use Rattle.lane_files.specs.Passed.{Takes}
-use Rattle.lane_files.specs.declared.lane.Lane.{Lane}
-use Rattle.lane_files.specs.declared.work.Work.{Work}
+use Rattle.lane_files.specs.lane_work.declared.lane.Lane.{Lane}
+use Rattle.lane_files.specs.lane_work.declared.work.Work.{Work}
 use Rattle.lane_files.specs.declared.refusal.FileError.{FileError}
 use Rattle.lane_files.specs.Counting.{CountsFile, KeepsRecords, StopsInFile}
 use Rattle.lane_files.specs.Keeping.{slots_of}

@@ -14,7 +14,7 @@ use Rattle.lane_files.specs.PieceMakes.{LacksMake}
 use Rattle.lane_files.specs.Pieces.{IsWhyNotCounted}
 use Rattle.lane_files.specs.Ready.{Owns}
 use Rattle.lane_files.specs.Scans.{scans_of}
-use Rattle.lane_files.specs.declared.lane.Lane.{Lane}
+use Rattle.lane_files.specs.lane_work.declared.lane.Lane.{Lane}
 use Rattle.lane_files.specs.declared.refusal.FileError.{FileError}
 use Rattle.lane_files.specs.declared.refusal.FileError.TheVariants as refused
 use Rattle.lane_files.specs.Keeping.{IsSameKeeper, slots_of}

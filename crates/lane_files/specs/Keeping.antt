@@ -1,6 +1,5 @@
 -- The references that a lane keeps.
-use Rattle.std.specs.Prelude.{◌≡◌, ◌≤◌, ◌==◌, ◌+◌, ◌++◌, Bool, true, cond, List, [], ◌∷◌, map}
-use Rattle.std.specs.HashSet.{contains_by}
+use Rattle.std.specs.Prelude.{◌≡◌, ◌≤◌, ◌==◌, ◌+◌, ◌++◌, true, cond, List, [], ◌∷◌}
 use Rattle.control_word.specs.plain_state.declared.slot.SlotId.{SlotId}
 use Rattle.control_word.specs.plain_state.Lists.{times}
 use Rattle.control_word.specs.core_events.Views.{Holds, without}
@@ -11,20 +10,8 @@ use Rattle.weak_intern.specs.directory_calls.Steps.{aside}
 use Rattle.words_protocol.specs.words_law.Views.{View}
 use Rattle.lane_files.specs.Ready.{Owns}
 use Rattle.lane_files.specs.Scans.{scans_of}
-use Rattle.lane_files.specs.declared.keeper.Keeper.{Keeper}
-
--- the slots of some references
-abbrev pub slots_of : List Handle → List SlotId
-slots_of handles = map (λ (h : Handle). h.slot) handles
-
--- one to this slot is kept for the present file
-unfoldable pub has : Keeper → SlotId → Bool
-has k s = contains_by (λ n. s.0 == n) k.in_file
-
--- it keeps what it kept, and has the same slots for the present file
-pub record IsSameKeeper (before after : Keeper) : Type 0 where
-  pub kept : after.kept.items ≡ before.kept.items
-  pub same : (s : SlotId) → has after s ≡ has before s
+pub use Rattle.lane_work.specs.Keeping.{IsSameKeeper, has, slots_of}
+use Rattle.lane_work.specs.declared.keeper.Keeper.{Keeper}
 
 -- The reference is kept, where none to its slot was kept for the file; else it was given up.
 pub record KeepsOne (handle : Handle) (before after : Keeper) (old new : SeatState View) : Type 0 where

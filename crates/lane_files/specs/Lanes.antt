@@ -14,8 +14,8 @@ use Rattle.weak_intern.specs.directory_calls.Directories.{area_of}
 use Rattle.weak_intern.specs.directory_calls.Steps.{aside}
 use Rattle.words_protocol.specs.words_law.Views.{View}
 use Rattle.lane_files.specs.Passed.{Takes}
-use Rattle.lane_files.specs.declared.lane.Lane.{Lane}
-use Rattle.lane_files.specs.declared.work.Work.{Work}
+use Rattle.lane_files.specs.lane_work.declared.lane.Lane.{Lane}
+use Rattle.lane_files.specs.lane_work.declared.work.Work.{Work}
 use Rattle.lane_files.specs.declared.refusal.LaneStop.{LaneStop}
 use Rattle.lane_files.specs.declared.refusal.LaneStop.TheVariants as stopped
 use Rattle.lane_files.specs.Counting.{KeepsRecords, StopsInFile}

@@ -13,6 +13,9 @@ pub use Rattle.words_protocol.specs.directory_protocol as directory_protocol
 pub use Rattle.control_word.specs.domain_rule as domain_rule
 pub use Rattle.hand_queues.specs as hand_queues
 pub use Rattle.lane_gate.specs as lane_gate
+pub use Rattle.lane_work.specs as lane_work
+pub use Rattle.lane_work.specs.FilePieces as FilePieces
+pub use Rattle.lane_work.specs.Work as Work
 pub use Rattle.hand_queues.specs.linked_queue as linked_queue
 pub use Rattle.hand_queues.specs.part_calls as part_calls
 pub use Rattle.control_word.specs.plain_state as plain_state
@@ -33,11 +36,9 @@ pub mod Ready
 pub mod Scans
 pub mod Whys
 pub mod Counting
-pub mod FilePieces
 pub mod Keeping
 pub mod Lanes
 pub mod Makes
 pub mod Missing
 pub mod Owning
 pub mod Next
-pub mod Work

@@ -13,7 +13,7 @@ use Rattle.lane_files.specs.declared.refusal.FileError.{FileError}
 use Rattle.lane_files.specs.declared.refusal.FileError.TheVariants as refused
 use Rattle.lane_files.specs.declared.refusal.LaneStop.{LaneStop}
 use Rattle.lane_files.specs.declared.refusal.LaneStop.TheVariants as stopped
-use Rattle.lane_files.specs.declared.work.Work.{Work}
+use Rattle.lane_files.specs.lane_work.declared.work.Work.{Work}
 use Rattle.lane_files.specs.Work.{all_tickets, words_of}
 
 -- the most objects that are made for some words: a node for each, and the slots of its record

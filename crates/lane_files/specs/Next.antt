@@ -9,7 +9,7 @@ use Rattle.words_protocol.specs.words_law.Views.{View}
 use Rattle.lane_files.specs.Passed.{Takes, UsesInterns}
 use Rattle.lane_files.specs.Ready.{Owns}
 use Rattle.lane_files.specs.Scans.{scans_of}
-use Rattle.lane_files.specs.declared.lane.Lane.{Lane}
+use Rattle.lane_files.specs.lane_work.declared.lane.Lane.{Lane}
 use Rattle.lane_files.specs.Keeping.{has, slots_of}
 
 -- It pushed an item of the word and popped one, or none. Where no reference to the slot of the word's record was kept

@@ -1,7 +1,6 @@
 -- What a seat pushed and popped between two of its views, as words.
 use Rattle.std.specs.Prelude.{◌≡◌, ℕ, ◌+◌, List, [], ◌∷◌, ◌++◌, Result, Ok, Err, length, map}
-use Rattle.words_protocol.specs.cdrc_text.Fold.{times}
-use Rattle.words_protocol.specs.cdrc_text.Tally.{count_of, total_of}
+use Rattle.words_protocol.specs.cdrc_text.Tally.{count_of}
 use Rattle.control_word.specs.plain_state.declared.slot.SlotId.{SlotId}
 use Rattle.control_word.specs.domain_rule.Views.{object_in}
 use Rattle.control_word.specs.acquire_retire.Seats.{SeatState}
@@ -16,6 +15,7 @@ use Rattle.words_protocol.specs.directory_law.Views.{In}
 use Rattle.hand_queues.specs.Pushes.{deeds_of}
 use Rattle.words_protocol.specs.words_law.Known.{ForgetsNothing, KnowsTexts}
 use Rattle.words_protocol.specs.words_law.Views.{View}
+pub use Rattle.lane_work.specs.Tallying.{Tallies}
 
 -- the view tells these words of the items, in order
 abbrev pub KnowsWords : DirectoryView → List Item → List (List ℕ) → Type 0
@@ -51,11 +51,6 @@ pub record Counts (pushed popped : List (List ℕ)) (v w : View) : Type 0 where
   pub pushed_words : KnowsWords w.1 pushes pushed
   pub popped_words : KnowsWords w.1 pops popped
   pub more : ForgetsNothing v.1 w.1
-
--- the second tally counts these words more
-pub record Tallies (words : List (List ℕ)) (before after : List (List ℕ × ℕ)) : Type 0 where
-  pub counts : (w : List ℕ) → count_of after w ≡ count_of before w + times w words
-  pub sum : total_of after ≡ total_of before + length words
 
 -- it pushed items of these words, popped so many, and counted the words of these
 pub record Takes (pushed : List (List ℕ)) (taken : ℕ) (v w : View)

@@ -14,14 +14,14 @@ ghost use Rattle.lane_files.specs.Keeping.{IsSameKeeper, has};
 ghost use Rattle.lane_files.specs.Makes.{cause_at};
 ghost use Rattle.lane_files.specs.Next.{CountsNext};
 
-use crate::file::FileText;
-use crate::lane::Lane;
+use crate::keeper::keep;
 use crate::refusal::FileError;
 use crate::tidying::tidy;
 use crate::{Shared, count_piece};
 use control_word::{Domain, PayloadKind, Seat};
 use hand_queues::Deleter;
 use lane_gate::Gate;
+use lane_work::{FileText, Lane};
 use std::sync::Wait;
 use words_protocol::{NodeKind, PairKind, RecordKind, WordsLaw};
 
@@ -113,7 +113,7 @@ fn count_next<R: Wait, F: Fn(&[u64; 16]) -> u64>(
     ensures ready { IsReady domain.now shared.now seat.new }
 {
     let handle = count_piece(rt, domain, seat, shared, piece, &mut lane.tally, room)?;
-    lane.keeper.keep(domain, seat, shared, handle)?;
+    keep(&mut lane.keeper, domain, seat, shared, handle)?;
     tidy(domain, seat, shared, weigh);
     Ok(())
 }

@@ -9,12 +9,12 @@ ghost use Rattle.lane_files.specs.Work.{IsWork, all_tickets, words_of};
 
 use crate::Shared;
 use crate::counting::count_file;
-use crate::lane::Lane;
+use crate::keeper::give_back;
 use crate::refusal::{FileError, LaneStop};
-use crate::work::Work;
 use control_word::{Domain, PayloadKind, Seat};
 use hand_queues::Deleter;
 use lane_gate::Gate;
+use lane_work::{Lane, Work};
 use std::sync::Wait;
 use weak_intern::draw;
 use words_protocol::{NodeKind, PairKind, RecordKind, Right, WordsLaw};
@@ -98,7 +98,7 @@ fn count_ticket<R: Wait, G: Gate, F: Fn(&[u64; 16]) -> u64>(
         work.file(ticket),
     )?;
     if !work.is_last(ticket) {
-        lane.keeper.give_back(domain, seat, shared, kept);
+        give_back(&mut lane.keeper, domain, seat, shared, kept);
     }
     Ok(())
 }

@@ -21,10 +21,8 @@ mod copying;
 mod counting;
 mod draining;
 mod drawing;
-mod file;
 mod interning;
 mod keeper;
-mod lane;
 mod laws;
 mod offering;
 mod piece;
@@ -33,20 +31,20 @@ mod refusal;
 mod shared;
 mod taking;
 mod tidying;
-mod work;
 
 pub use control_word::{Domain, OpenError, PayloadKind, Quota, Seat, Shape, open_granted};
 pub use copying::offer_copy;
 pub use counting::count_file;
 pub use draining::drain;
 pub use drawing::run_lane;
-pub use file::FileText;
 pub use hand_queues::{AnyQueue, Deleter, Form, HandQueue, MakeError};
-pub use keeper::Keeper;
-pub use lane::Lane;
+pub use keeper::{give_back, keep};
 pub use lane_gate::{
     FileFault, Files, Gate, HonestFiles, HonestSink, HostFiles, HostSink, Meet, MemFiles, MemSink,
     Open, Sink, SinkFault,
+};
+pub use lane_work::{
+    FileText, Keeper, Lane, Work, count_parts, count_pieces, count_slots, is_within_limits,
 };
 pub use laws::{
     full_domains_lack_slots, full_lanes_have_missed, full_lanes_have_scanned,
@@ -62,4 +60,3 @@ pub use weak_intern::{Directory, find, pairs_have_pieces};
 pub use words_protocol::{
     DirectoryLaw, Left, MOST_SLOTS, NodeKind, OutOfMemory, PairKind, QueueLaw, RecordKind, WordsLaw,
 };
-pub use work::Work;

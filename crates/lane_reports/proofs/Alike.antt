@@ -12,7 +12,7 @@ use Rattle.domain_audit.specs.acquire_retire.Seats.{SeatState}
 use Rattle.words_rest.specs.directory_law.declared.view.View.{View as DirectoryView}
 use Rattle.ticket_shares.specs.Tickets.{together}
 use Rattle.words_rest.specs.words_law.Views.{View}
-use Rattle.lane_domain.specs.lane_files.declared.work.Work.{Work}
+use Rattle.lane_domain.specs.lane_files.lane_work.declared.work.Work.{Work}
 use Rattle.lane_domain.specs.lane_files.Keeping.{slots_of}
 use Rattle.lane_domain.specs.lane_files.Work.{is_last, kept_files, words_of}
 use Rattle.lane_reports.specs.declared.done.Done.{Done}

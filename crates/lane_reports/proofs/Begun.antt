@@ -14,9 +14,9 @@ use Rattle.domain_audit.specs.control_word.Resting.{IsUnderNone}
 use Rattle.words_rest.specs.words_law.Views.{View}
 use Rattle.lane_domain.specs.words_protocol.declared.law.WordsLaw.{WordsLaw}
 use Rattle.lane_domain.specs.lane_files.declared.shared.Shared.{Shared}
-use Rattle.lane_domain.specs.lane_files.declared.lane.Lane.{Lane}
+use Rattle.lane_domain.specs.lane_files.lane_work.declared.lane.Lane.{Lane}
 use Rattle.lane_domain.specs.lane_files.declared.refusal.LaneStop.{LaneStop}
-use Rattle.lane_domain.specs.lane_files.declared.work.Work.{Work}
+use Rattle.lane_domain.specs.lane_files.lane_work.declared.work.Work.{Work}
 use Rattle.lane_domain.specs.Opened.{fresh_lanes, fresh_seat}
 use Rattle.lane_reports.specs.declared.done.Done.{Done}
 use Rattle.lane_reports.specs.Deeds.{IsFresh, IsNew, LaneDid}

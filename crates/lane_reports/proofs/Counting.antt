@@ -20,7 +20,7 @@ use Rattle.words_rest.proofs.Below.words_law_Known.{knows_both}
 use Rattle.tally_sums.specs.cdrc_text.Fold.{times}
 use Rattle.ticket_shares.specs.Tickets.{IsEachOnce, together}
 use Rattle.lane_domain.specs.lane_files.Passed.{KnowsWords, by_seat}
-use Rattle.lane_domain.specs.lane_files.declared.work.Work.{Work}
+use Rattle.lane_domain.specs.lane_files.lane_work.declared.work.Work.{Work}
 use Rattle.lane_domain.specs.lane_files.Work.{all_tickets, words_of_all}
 use Rattle.domain_audit.specs.counted_handles.Handles.{Handle}
 use Rattle.lane_reports.specs.declared.done.Done.{Done}

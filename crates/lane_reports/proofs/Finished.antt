@@ -32,7 +32,7 @@ use Rattle.words_rest.specs.Kept.{TellsFiles}
 use Rattle.ticket_shares.specs.Tickets.{AreLanes, IsEachOnce, together}
 use Rattle.ticket_shares.proofs.Lanes.{each_ticket}
 use Rattle.lane_domain.specs.lane_files.Ready.{Owns}
-use Rattle.lane_domain.specs.lane_files.declared.work.Work.{Work}
+use Rattle.lane_domain.specs.lane_files.lane_work.declared.work.Work.{Work}
 use Rattle.lane_domain.specs.lane_files.Keeping.{slots_of}
 use Rattle.lane_domain.specs.lane_files.Work.{IsWork, all_tickets, kept_files}
 use Rattle.lane_domain.specs.Sizes.{all_pieces, texts_in}

@@ -13,7 +13,7 @@ use Rattle.words_rest.specs.directory_law.declared.view.View.{View as DirectoryV
 use Rattle.words_rest.specs.words_law.Views.{View}
 use Rattle.words_rest.specs.Kept.{TellsWord}
 use Rattle.words_rest.specs.Written.{HaveWords}
-use Rattle.lane_domain.specs.lane_files.declared.work.Work.{Work}
+use Rattle.lane_domain.specs.lane_files.lane_work.declared.work.Work.{Work}
 use Rattle.lane_domain.specs.Sizes.{texts_in}
 use Rattle.lane_reports.specs.declared.records.WordRecord.{WordRecord}
 use Rattle.lane_reports.specs.HolderCounts.{CountsHolders, TellsRows, counts_of}

@@ -9,7 +9,7 @@ use Rattle.tally_sums.specs.cdrc_text.Fold.{File, holders_in, times}
 use Rattle.ticket_shares.specs.Tickets.{IsEachOnce, file_of}
 use Rattle.ticket_shares.specs.Tickets as shares
 use Rattle.ticket_shares.proofs.Rounds.{round_counts}
-use Rattle.lane_domain.specs.lane_files.declared.work.Work.{Work}
+use Rattle.lane_domain.specs.lane_files.lane_work.declared.work.Work.{Work}
 use Rattle.lane_domain.specs.lane_files.FilePieces.{pieces_in}
 use Rattle.lane_domain.specs.lane_files.Work.{all_tickets, is_last, kept_files, words_of}
 use Rattle.lane_domain.specs.Sizes.{texts_in}

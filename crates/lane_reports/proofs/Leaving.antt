@@ -43,8 +43,8 @@ use Rattle.lane_domain.specs.lane_files.Passed.{KnowsWords, by_seat}
 use Rattle.lane_domain.specs.lane_files.declared.shared.Shared.{Shared}
 use Rattle.lane_domain.specs.lane_files.Ready.{IsReady}
 use Rattle.lane_domain.proofs.Below.lane_files_PiecesCounted.{more_then}
-use Rattle.lane_domain.specs.lane_files.declared.lane.Lane.{Lane}
-use Rattle.lane_domain.specs.lane_files.declared.work.Work.{Work}
+use Rattle.lane_domain.specs.lane_files.lane_work.declared.lane.Lane.{Lane}
+use Rattle.lane_domain.specs.lane_files.lane_work.declared.work.Work.{Work}
 use Rattle.lane_domain.specs.lane_files.Keeping.{slots_of}
 use Rattle.lane_domain.specs.lane_files.Work.{all_tickets, kept_files, words_of_all}
 use Rattle.lane_reports.specs.declared.done.Done.{Done}

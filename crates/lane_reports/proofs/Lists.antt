@@ -9,7 +9,7 @@ use Rattle.words_rest.specs.queue_law.declared.view.Taken.{Taken}
 use Rattle.words_rest.specs.queue_law.Lists.{taken_items}
 use Rattle.ticket_shares.specs.Tickets.{AreLanes, IsShare, together}
 use Rattle.lane_domain.specs.lane_files.Passed.{by_seat}
-use Rattle.lane_domain.specs.lane_files.declared.work.Work.{Work}
+use Rattle.lane_domain.specs.lane_files.lane_work.declared.work.Work.{Work}
 use Rattle.lane_domain.specs.lane_files.Work.{words_of, words_of_all}
 use Rattle.lane_reports.specs.Deeds.{IsTallyOf, LaneDeeds}
 use Rattle.lane_reports.specs.Gathering.{AreTallies, each_by, shares_of, words_popped}

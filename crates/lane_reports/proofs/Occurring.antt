@@ -31,8 +31,8 @@ use Rattle.words_rest.proofs.Below.words_law_Parts.{queue_at}
 use Rattle.words_rest.proofs.Below.words_law_Root.{root_has, told_agree}
 use Rattle.ticket_shares.specs.Tickets.{IsEachOnce, file_of}
 use Rattle.ticket_shares.proofs.Rounds.{round_sums}
-use Rattle.lane_domain.specs.lane_files.declared.file.FileText.{FileText}
-use Rattle.lane_domain.specs.lane_files.declared.work.Work.{Work}
+use Rattle.lane_domain.specs.lane_files.lane_work.declared.file.FileText.{FileText}
+use Rattle.lane_domain.specs.lane_files.lane_work.declared.work.Work.{Work}
 use Rattle.lane_domain.specs.lane_files.FilePieces.{HasPieces, IsLongPlace, pieces_in}
 use Rattle.lane_domain.specs.lane_files.Work.{IsWork, all_tickets, words_of, words_of_all}
 use Rattle.lane_domain.specs.Sizes.{all_pieces, texts_in}

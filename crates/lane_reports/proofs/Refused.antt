@@ -27,11 +27,11 @@ use Rattle.lane_domain.specs.lane_files.declared.refusal.PieceError.TheVariants 
 use Rattle.lane_domain.specs.lane_files.declared.shared.Shared.{Shared}
 use Rattle.lane_domain.specs.lane_files.Pieces.{IsWhyNotCounted}
 use Rattle.lane_domain.specs.lane_files.Whys.{IsWhyNotCopied}
-use Rattle.lane_domain.specs.lane_files.declared.lane.Lane.{Lane}
+use Rattle.lane_domain.specs.lane_files.lane_work.declared.lane.Lane.{Lane}
 use Rattle.lane_domain.specs.lane_files.declared.refusal.FileError.TheVariants as unread
 use Rattle.lane_domain.specs.lane_files.declared.refusal.LaneStop.{LaneStop}
 use Rattle.lane_domain.specs.lane_files.declared.refusal.LaneStop.TheVariants as stopped
-use Rattle.lane_domain.specs.lane_files.declared.work.Work.{Work}
+use Rattle.lane_domain.specs.lane_files.lane_work.declared.work.Work.{Work}
 use Rattle.lane_domain.specs.lane_files.Lanes.{IsWhyStopped, StopsLane}
 use Rattle.lane_domain.specs.lane_files.PieceMakes.{cause_in}
 use Rattle.lane_domain.specs.lane_files.Makes.{HasItsMakes, cause_of}

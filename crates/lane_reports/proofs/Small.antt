@@ -9,8 +9,8 @@ use Rattle.tally_sums.specs.cdrc_text.Fold.{File, times}
 use Rattle.words_rest.specs.directory_law.Bytes.{AreBytes, bytes_of_words, low_bytes, part_bytes, piece_bytes, text_bytes}
 use Rattle.words_rest.specs.directory_law.Payloads.{Text, size}
 use Rattle.ticket_shares.specs.Tickets.{IsEachOnce}
-use Rattle.words_rest.proofs.Reported.{small_in}
-use Rattle.lane_domain.specs.lane_files.declared.work.Work.{Work}
+use Rattle.words_rest.proofs.Below.record_counts_Told.{small_in}
+use Rattle.lane_domain.specs.lane_files.lane_work.declared.work.Work.{Work}
 use Rattle.lane_domain.specs.lane_files.Work.{all_tickets, words_of_all}
 use Rattle.lane_domain.specs.Sizes.{texts_in}
 use Rattle.lane_reports.proofs.Occurring.{sum_work, times_both}

@@ -13,7 +13,7 @@ use Rattle.words_rest.specs.queue_law.Lists.{taken_items}
 use Rattle.words_rest.specs.words_law.Views.{View}
 use Rattle.lane_domain.specs.lane_files.Passed.{KnowsWords}
 use Rattle.lane_domain.proofs.Below.lane_files_PiecesCounted.{more_none}
-use Rattle.lane_domain.specs.lane_files.declared.work.Work.{Work}
+use Rattle.lane_domain.specs.lane_files.lane_work.declared.work.Work.{Work}
 use Rattle.lane_domain.specs.lane_files.Work.{words_of_all}
 use Rattle.lane_reports.specs.declared.done.Done.{Done}
 use Rattle.lane_reports.specs.Gathering.{DrewTickets, HasGathered, IsBare, Tally}

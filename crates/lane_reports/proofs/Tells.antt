@@ -10,7 +10,7 @@ use Rattle.words_rest.specs.words_law.Known.{KnowsMore, KnowsText}
 use Rattle.words_rest.specs.words_law.Views.{View}
 use Rattle.words_rest.proofs.Below.words_law_Known.{knows_all_more, knows_more}
 use Rattle.lane_domain.proofs.Below.lane_files_Offered.{texts}
-use Rattle.lane_domain.specs.lane_files.declared.work.Work.{Work}
+use Rattle.lane_domain.specs.lane_files.lane_work.declared.work.Work.{Work}
 use Rattle.lane_domain.specs.lane_files.Counting.{KeepsRecords, KnowsEach}
 use Rattle.lane_domain.specs.lane_files.Keeping.{slots_of}
 use Rattle.lane_domain.specs.lane_files.Lanes.{KeepsFiles}
@@ -20,7 +20,8 @@ use Rattle.lane_reports.specs.declared.done.Done.{Done}
 use Rattle.lane_reports.specs.Deeds.{LaneDeeds}
 use Rattle.lane_reports.specs.Gathering.{KnowsPops, TellsLanes, kept_by}
 use Rattle.lane_reports.specs.Kept.{lives_in}
-use Rattle.words_rest.specs.Kept.{TellsEach, TellsFiles, TellsRecords}
+use Rattle.words_rest.specs.Kept.{TellsEach, TellsFiles, TellsRecords, TellsWord}
+use Rattle.words_rest.proofs.Below.record_counts_Joined.{files_more as told_more}
 
 -- BY WHAT A SEAT KNOWS
 pub tells_text : (s : SlotId) (text : Text) (seat : SeatState View) → Knows texts s text seat
@@ -65,35 +66,15 @@ tells_files (words ∷ files) kept seat (first, others, records, rest, is) =
 
 -- A VIEW THAT KNOWS MORE
 module _ (v w : DirectoryView) (more : KnowsMore v w) where
-  each_more : (lives : SlotId → ℕ) (ws : List (List ℕ)) (ss : List SlotId)
-      → TellsEach lives ws ss v → TellsEach lives ws ss w
-  each_more lives [] [] tells = tt
-  each_more lives [] (s ∷ ss) tells = absurd tells
-  each_more lives (x ∷ ws) [] tells = absurd tells
-  each_more lives (x ∷ ws) (s ∷ ss) tells = (
-    (
-      tells.0.0,
-      tells.0.1,
-      knows_more v w more (record { slot = s.0; life = lives s; payload = [] }) tells.0.0 tells.0.2,
-    ),
-    each_more lives ws ss tells.1,
-  )
-
   pub files_more : (lives : SlotId → ℕ) (files : List (List (List ℕ))) (kept : List SlotId)
       → TellsFiles lives files kept v → TellsFiles lives files kept w
-  files_more lives [] kept tells = tells
-  files_more lives (words ∷ files) kept (first, others, records, rest, is) = (
-    first,
-    others,
-    record {
-      slots = records.slots;
-      tells = each_more lives words records.slots records.tells;
-      once = records.once;
-      only = records.only;
-    },
-    files_more lives files others rest,
-    is,
-  )
+  files_more lives = told_more (λ bytes s. TellsWord v bytes s (lives s))
+      (λ bytes s. TellsWord w bytes s (lives s))
+      (λ bytes s told. (
+        told.0,
+        told.1,
+        knows_more v w more (record { slot = s.0; life = lives s; payload = [] }) told.0 told.2,
+      ))
 
   pub lanes_more : (work : Work) (xs : List LaneDeeds) (done : List Done)
       → TellsLanes work xs done v → TellsLanes work xs done w

@@ -14,8 +14,8 @@ use Rattle.lane_domain.specs.words_protocol.declared.law.WordsLaw.{WordsLaw}
 use Rattle.lane_domain.specs.lane_files.Passed.{by_seat}
 use Rattle.lane_domain.specs.lane_files.declared.shared.Shared.{Shared}
 use Rattle.lane_domain.specs.lane_files.Ready.{IsReady}
-use Rattle.lane_domain.specs.lane_files.declared.lane.Lane.{Lane}
-use Rattle.lane_domain.specs.lane_files.declared.work.Work.{Work}
+use Rattle.lane_domain.specs.lane_files.lane_work.declared.lane.Lane.{Lane}
+use Rattle.lane_domain.specs.lane_files.lane_work.declared.work.Work.{Work}
 use Rattle.lane_domain.specs.lane_files.Keeping.{slots_of}
 use Rattle.lane_domain.specs.lane_files.Lanes.{KeepsFiles, RunsLane}
 use Rattle.lane_domain.specs.lane_files.Work.{kept_files}

@@ -37,8 +37,8 @@ use Rattle.words_rest.proofs.KeptWords.{kept_heads}
 use Rattle.words_rest.proofs.Living.{none_cyclic, none_deferred, none_lives}
 use Rattle.words_rest.proofs.NoNode.{no_node_audited}
 use Rattle.words_rest.proofs.Reported.{is_report}
-use Rattle.words_rest.proofs.Sums.{no_bytes, no_slots}
-use Rattle.lane_domain.specs.lane_files.declared.work.Work.{Work}
+use Rattle.words_rest.proofs.Below.record_counts_Sums.{no_bytes, no_slots}
+use Rattle.lane_domain.specs.lane_files.lane_work.declared.work.Work.{Work}
 use Rattle.lane_domain.specs.lane_files.Work.{IsWork, kept_files}
 use Rattle.lane_domain.specs.lane_files.FilePieces.{pieces_in}
 use Rattle.lane_domain.specs.Sizes.{all_pieces, texts_in}

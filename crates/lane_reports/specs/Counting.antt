@@ -7,7 +7,7 @@ use Rattle.words_rest.specs.words_law.Views.{View}
 use Rattle.tally_sums.specs.cdrc_text.Fold.{occurrences_in, times}
 use Rattle.ticket_shares.specs.Tickets.{IsEachOnce, together}
 use Rattle.lane_domain.specs.lane_files.Passed.{KnowsWords, by_seat}
-use Rattle.lane_domain.specs.lane_files.declared.work.Work.{Work}
+use Rattle.lane_domain.specs.lane_files.lane_work.declared.work.Work.{Work}
 use Rattle.lane_domain.specs.lane_files.Work.{all_tickets, words_of_all}
 use Rattle.lane_domain.specs.Sizes.{texts_in}
 use Rattle.lane_reports.specs.Deeds.{IsTallyOf, LaneDeeds}

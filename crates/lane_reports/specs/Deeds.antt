@@ -14,8 +14,8 @@ use Rattle.words_rest.specs.words_law.Views.{View}
 use Rattle.lane_domain.specs.words_protocol.declared.law.WordsLaw.{WordsLaw}
 use Rattle.ticket_shares.specs.Tickets.{IsShare}
 use Rattle.lane_domain.specs.lane_files.Passed.{KnowsWords, by_seat}
-use Rattle.lane_domain.specs.lane_files.declared.lane.Lane.{Lane}
-use Rattle.lane_domain.specs.lane_files.declared.work.Work.{Work}
+use Rattle.lane_domain.specs.lane_files.lane_work.declared.lane.Lane.{Lane}
+use Rattle.lane_domain.specs.lane_files.lane_work.declared.work.Work.{Work}
 use Rattle.lane_domain.specs.lane_files.Keeping.{slots_of}
 use Rattle.lane_domain.specs.lane_files.Lanes.{KeepsFiles}
 use Rattle.lane_domain.specs.lane_files.Work.{all_tickets, kept_files, words_of_all}

@@ -9,9 +9,9 @@ use Rattle.domain_audit.specs.slot_store.declared.making.MakeError.TheVariants a
 use Rattle.words_rest.specs.queue_law.declared.view.Form.{Form}
 use Rattle.words_rest.specs.words_law.Views.{View}
 use Rattle.lane_domain.specs.words_protocol.declared.law.WordsLaw.{WordsLaw}
-use Rattle.lane_domain.specs.lane_files.declared.lane.Lane.{Lane}
+use Rattle.lane_domain.specs.lane_files.lane_work.declared.lane.Lane.{Lane}
 use Rattle.lane_domain.specs.lane_files.declared.refusal.LaneStop.{LaneStop}
-use Rattle.lane_domain.specs.lane_files.declared.work.Work.{Work}
+use Rattle.lane_domain.specs.lane_files.lane_work.declared.work.Work.{Work}
 use Rattle.lane_domain.specs.lane_files.Lanes.{StopsLane}
 use Rattle.lane_domain.specs.lane_files.Makes.{cause_of}
 use Rattle.lane_domain.specs.lane_files.Missing.{HasMissed}

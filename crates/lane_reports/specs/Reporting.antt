@@ -16,7 +16,7 @@ use Rattle.words_rest.specs.queue_law.declared.view.View.{View as QueueView}
 use Rattle.words_rest.specs.words_law.Views.{View}
 use Rattle.words_rest.specs.Kept.{TellsFiles}
 use Rattle.ticket_shares.specs.Tickets.{IsEachOnce}
-use Rattle.lane_domain.specs.lane_files.declared.work.Work.{Work}
+use Rattle.lane_domain.specs.lane_files.lane_work.declared.work.Work.{Work}
 use Rattle.lane_domain.specs.lane_files.Keeping.{slots_of}
 use Rattle.lane_domain.specs.lane_files.Work.{all_tickets, kept_files}
 use Rattle.lane_domain.specs.Opened.{shape_for}

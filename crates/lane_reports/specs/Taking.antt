@@ -5,7 +5,7 @@ use Rattle.domain_audit.specs.acquire_retire.Seats.{SeatState}
 use Rattle.words_rest.specs.words_law.Views.{View}
 use Rattle.tally_sums.specs.cdrc_text.Tally.{count_of, total_of}
 use Rattle.lane_domain.specs.lane_files.Passed.{Takes}
-use Rattle.lane_domain.specs.lane_files.declared.work.Work.{Work}
+use Rattle.lane_domain.specs.lane_files.lane_work.declared.work.Work.{Work}
 use Rattle.lane_domain.specs.Sizes.{all_pieces}
 use Rattle.tally_sums.specs.Sums.{Tallies}
 

@@ -1,12 +1,12 @@
 -- The words of the references that seat 0 keeps: each slot has one, and as many files have it as there are references.
 use Rattle.std.specs.Prelude.{◌↔◌, slice_index_or}
-use Rattle.std.proofs.Common.{◌≡◌, ℕ, ◌<◌, ◌≤◌, List, [], ◌∷◌, refl, ap, sym, subst, ◌∙◌, arith}
+use Rattle.std.proofs.Common.{◌≡◌, ℕ, ◌<◌, List, [], refl, ap, sym, subst, ◌∙◌, arith}
 use Rattle.plain_audit.specs.plain_state.declared.slot.SlotId.{SlotId}
 use Rattle.plain_audit.specs.plain_state.Lawful.{Lawful}
 use Rattle.plain_audit.specs.plain_state.Lists.{times}
-use Rattle.plain_audit.specs.plain_state.References.{over_seats, strong_refs}
-use Rattle.plain_audit.specs.plain_state.State.{Plain, PlainSeat, seat_at, slot_at, new_seat}
-use Rattle.plain_audit.proofs.Below.plain_state_Kit.{seats_at, slot_is, times_none}
+use Rattle.plain_audit.specs.plain_state.References.{strong_refs}
+use Rattle.plain_audit.specs.plain_state.State.{Plain, seat_at, slot_at}
+use Rattle.plain_audit.proofs.Below.plain_state_Kit.{slot_is}
 use Rattle.words_law.specs.queue_law.declared.view.Item.{Item}
 use Rattle.words_law.specs.queue_law.Chain.{Ends}
 use Rattle.words_law.specs.directory_law.declared.view.View.{View as DirectoryView}
@@ -29,13 +29,8 @@ use Rattle.words_rest.specs.Records.{word_at}
 use Rattle.words_rest.specs.Rest.{IsLeft, OwnsHeads}
 use Rattle.words_rest.proofs.Heads.{owned_head}
 use Rattle.words_rest.proofs.Living.{head_counted}
-use Rattle.words_rest.proofs.Told.{files_counted, held_is_kept, kept_has_word}
-
--- what seat 0 owns has a reference
-root_refs : (s : SlotId) (vs : List PlainSeat)
-    → times s (slice_index_or vs 0 new_seat).owned ≤ over_seats (λ v. times s v.owned) vs
-root_refs s [] = let none = times_none s in omega arith
-root_refs s (v ∷ vs) = seats_at (λ v. times s v.owned) (v ∷ vs) 0 (omega arith)
+use Rattle.record_counts.proofs.Living.{root_refs}
+use Rattle.record_counts.proofs.Told.{files_counted, held_is_kept, kept_has_word}
 
 module _ (u : Ends) (z : Area) (p : Plain) (views : List View) (lives : SlotId → ℕ)
     (files : List File) (kept : List SlotId) (k : KeepsRecordsOf u z p views lives files kept) where
@@ -51,6 +46,10 @@ module _ (u : Ends) (z : Area) (p : Plain) (views : List View) (lives : SlotId �
   abbrev item : SlotId → Item
   item s = in_life s (slot_at p s).life
 
+  -- what the view tells in the lives that are given
+  abbrev pub Told : List ℕ → SlotId → Type 0
+  Told w s = TellsWord root w s (lives s)
+
   lawful : Lawful p
   lawful = k.meets.lawful
 
@@ -58,7 +57,7 @@ module _ (u : Ends) (z : Area) (p : Plain) (views : List View) (lives : SlotId �
   law = k.meets.law.both.1
 
   pub kept_told : (s : SlotId) → 0 < times s kept → (w : List ℕ) × TellsWord root w s (lives s)
-  kept_told = kept_has_word lives root files kept k.tells
+  kept_told = kept_has_word Told files kept k.tells
 
   module _ (s : SlotId) (some : 0 < times s kept) where
     alive : IsAlive p (item s)
@@ -108,7 +107,7 @@ module _ (u : Ends) (z : Area) (p : Plain) (views : List View) (lives : SlotId �
 
   pub kept_counted : (s : SlotId) → 0 < times s kept
       → times s kept ≡ holders_in (word_at p views s) files
-  kept_counted = files_counted lives root (word_at p views) IsKept told_own kept_one files kept
+  kept_counted = files_counted Told (word_at p views) IsKept told_own kept_one files kept
       k.tells k.bytes (λ t some. some)
 
   pub refs_counted : IsLeft p views → HasNoNode p → (s : SlotId) → 0 < times s kept
@@ -122,7 +121,7 @@ module _ (u : Ends) (z : Area) (p : Plain) (views : List View) (lives : SlotId �
   pub kept_words : (w : List ℕ)
       → (0 < holders_in w files) ↔ ((s : SlotId) × (0 < times s kept) × (word_at p views s ≡ w))
   kept_words w = (
-    held_is_kept lives root (word_at p views) IsKept told_own kept_one w files kept k.tells k.bytes
+    held_is_kept Told (word_at p views) IsKept told_own kept_one w files kept k.tells k.bytes
         (λ t some. some),
     λ r.
         let counted = kept_counted r.0 r.1 in

@@ -1,17 +1,10 @@
 pub mod Below
-pub mod Sums
-pub mod Finite
 pub mod Referring
 pub mod Heads
 pub mod NoNode
 pub mod Living
-pub mod Lengths
-pub mod Added
-pub mod Chains
 pub mod Summed
-pub mod Told
 pub mod KeptWords
-pub mod Full
 pub mod Settled
 pub mod Ring
 pub mod RingLaw

@@ -1,18 +1,15 @@
 -- No node is left: it would be referred to from field 0 of a node, and that one too, without end.
 use Rattle.std.proofs.Common.{◌≡◌, ◌⊎◌, inr, ⊎_elim, ℕ, zero, suc, ◌<◌, ◌≤◌, List, [], ◌∷◌, length, refl, ap, sym, subst, ◌∙◌, arith, Some, None}
-use Rattle.std.proofs.lemmas.Bool.{cases_eq, cases_lt}
-use Rattle.std.proofs.lemmas.List.{get_or_past}
+use Rattle.std.proofs.lemmas.Bool.{cases_eq}
 use Rattle.plain_audit.specs.plain_state.declared.act.EventPlace.TheVariants.{Cell}
 use Rattle.plain_audit.specs.plain_state.declared.act.PlainAct.{PlainAct}
 use Rattle.plain_audit.specs.plain_state.declared.slot.Kind.TheVariants.{Strong}
-use Rattle.plain_audit.specs.plain_state.declared.slot.PlainSlot.{PlainSlot}
 use Rattle.plain_audit.specs.plain_state.declared.slot.SlotId.{SlotId}
-use Rattle.plain_audit.specs.plain_state.declared.slot.Stage.TheVariants.{Free, Live}
 use Rattle.plain_audit.specs.plain_state.Lawful.{Lawful}
 use Rattle.plain_audit.specs.plain_state.Lists.{times}
 use Rattle.plain_audit.specs.plain_state.Places.{content}
 use Rattle.plain_audit.specs.plain_state.References.{held_in, strong_fields}
-use Rattle.plain_audit.specs.plain_state.State.{Plain, new_slot, no_payload, seat_at, slot_at, stage_at}
+use Rattle.plain_audit.specs.plain_state.State.{Plain, no_payload, seat_at, slot_at}
 use Rattle.plain_audit.specs.plain_state.Steps.{Does, word_of}
 use Rattle.plain_audit.proofs.Below.plain_state_Kit.{none_or_some}
 use Rattle.plain_audit.specs.plain_protocol.Acts.{IsCalm}
@@ -43,10 +40,11 @@ use Rattle.words_law.specs.Texts.{AllPieces}
 use Rattle.words_law.specs.Views.{View, directories, queues}
 use Rattle.words_rest.specs.Nodes.{HasNoNode, HasNoNodeAsItem, IsAllReached, IsLiveNode}
 use Rattle.words_rest.specs.Rest.{IsLeft}
-use Rattle.words_rest.proofs.Finite.{going_back}
+use Rattle.record_counts.proofs.Finite.{going_back}
+use Rattle.record_counts.proofs.Living.{live_low}
+use Rattle.record_counts.proofs.Sums.{held_some}
 use Rattle.words_rest.proofs.Heads.{live_kind, owned_head}
 use Rattle.words_rest.proofs.Referring.{no_cell, no_deferral, owned_all, referrer, refs_are}
-use Rattle.words_rest.proofs.Sums.{held_some}
 
 -- where just none of the first numbers has a property
 many_zero : (P : ℕ → Type 0) (n many : ℕ) → many ≡ 0 → HowMany P n many → (k : ℕ) → k < n
@@ -59,15 +57,6 @@ many_zero P (suc n) many none is k lt has = ⊎_elim
     (λ ne. many_zero P n many none other.1 k (omega arith) has)
     (cases_eq k n))
     is
-
--- what lives is one of the slots
-pub live_low : (p : Plain) (s : SlotId) → stage_at p s ≡ Live → s.0 < length p.slots
-live_low p s live = ⊎_elim
-    (λ (inside : s.0 < length p.slots). inside)
-    (λ past.
-    let free = ap (λ (x : PlainSlot). x.stage) (get_or_past p.slots s.0 new_slot past) in
-    let wrong : Live ≡ Free = sym live ∙ free in absurd cc)
-    (cases_lt s.0 (length p.slots))
 
 -- no node is a slot of the directory
 pub node_not_own : (p : Plain) (s : SlotId) → OwnSlot p s → (slot_at p s).payload ≡ no_payload → ⊥

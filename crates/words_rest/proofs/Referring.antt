@@ -12,7 +12,7 @@ use Rattle.plain_audit.specs.plain_state.State.{Plain, seat_at, slot_at, stage_a
 use Rattle.plain_audit.proofs.Below.plain_state_Kit.{entry_none, held_none, none_or_some, times_none}
 use Rattle.words_law.specs.Views.{View}
 use Rattle.words_rest.specs.Rest.{IsLeft}
-use Rattle.words_rest.proofs.Sums.{held_some, null_cells, seats_none, seats_root, some_slot}
+use Rattle.record_counts.proofs.Sums.{held_some, null_cells, seats_none, seats_root, some_slot}
 
 stage_cases : (g : Stage) → (g ≡ Live) ⊎ ((g ≡ Ended) ⊎ ((g ≢ Live) × (g ≢ Ended)))
 stage_cases Free = inr (inr ((λ (e : Free ≡ Live). cc), (λ (e : Free ≡ Ended). cc)))

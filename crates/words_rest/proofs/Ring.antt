@@ -11,7 +11,7 @@ use Rattle.plain_audit.specs.plain_state.References.{dying_times, held_in, over_
 use Rattle.plain_audit.specs.plain_state.State.{Plain, PlainSeat, new_seat, new_slot, no_payload, seat_at, slot_at, stage_at}
 use Rattle.plain_audit.proofs.Below.plain_state_Kit.{cells_none, entry_none, held_is, held_none, held_self, times_none}
 use Rattle.plain_audit.specs.heap_audit.Heaps.{slot}
-use Rattle.words_rest.proofs.Sums.{seats_none}
+use Rattle.record_counts.proofs.Sums.{seats_none}
 
 abbrev loop : PlainSlot
 loop = record {

@@ -1,9 +1,10 @@
 -- What a view of the directory tells of references that are kept.
-use Rattle.std.specs.Prelude.{ℕ, ◌≡◌, ◌<◌, ◌++◌, All, List, [], ◌∷◌, slice_index_or}
+use Rattle.std.specs.Prelude.{ℕ, ◌≡◌, ◌<◌, All, List, [], slice_index_or}
 use Rattle.plain_audit.specs.plain_state.declared.slot.SlotId.{SlotId}
 use Rattle.plain_audit.specs.plain_state.Lists.{times}
 use Rattle.plain_audit.specs.plain_state.State.{Plain, seat_at, slot_at}
 use Rattle.plain_audit.specs.plain_protocol.Laws.{Meets}
+use Rattle.record_counts.specs.Told as told
 use Rattle.words_law.specs.queue_law.Chain.{Ends}
 use Rattle.words_law.specs.directory_law.declared.view.View.{View as DirectoryView}
 use Rattle.words_law.specs.directory_law.Bytes.{AreBytes, IsTextOf}
@@ -22,26 +23,16 @@ TellsWord v w s life =
 
 -- it tells these words of these slots, in order
 abbrev pub TellsEach : (SlotId → ℕ) → List (List ℕ) → List SlotId → DirectoryView → Type 0
-TellsEach lives [] [] v = Unit {0}
-TellsEach lives [] (s ∷ ss) v = ⊥
-TellsEach lives (w ∷ ws) [] v = ⊥
-TellsEach lives (w ∷ ws) (s ∷ ss) v = TellsWord v w s (lives s) × TellsEach lives ws ss v
+TellsEach lives words slots v = told.TellsEach (λ w s. TellsWord v w s (lives s)) words slots
 
 -- Each of these words has a slot, of which the view tells it in the life that is given for that slot. The references
 -- that are kept are to these slots, to each once.
-pub record TellsRecords (lives : SlotId → ℕ) (words : List (List ℕ)) (kept : List SlotId)
-    (v : DirectoryView) : Type 0 where
-  pub slots : List SlotId
-  pub tells : TellsEach lives words slots v
-  pub once : (s : SlotId) → 0 < times s slots → times s kept ≡ 1
-  pub only : (s : SlotId) → times s slots ≡ 0 → times s kept ≡ 0
+abbrev pub TellsRecords : (SlotId → ℕ) → List (List ℕ) → List SlotId → DirectoryView → Type 0
+TellsRecords lives words kept v = told.TellsRecords (λ w s. TellsWord v w s (lives s)) words kept
 
 -- the same of several files, whose references are kept one after the other's
 abbrev pub TellsFiles : (SlotId → ℕ) → List (List (List ℕ)) → List SlotId → DirectoryView → Type 0
-TellsFiles lives [] kept v = kept ≡ []
-TellsFiles lives (words ∷ files) kept v =
-    (first : List SlotId) × (others : List SlotId) × TellsRecords lives words first v
-    × TellsFiles lives files others v × (kept ≡ first ++ others)
+TellsFiles lives files kept v = told.TellsFiles (λ w s. TellsWord v w s (lives s)) files kept
 
 -- the law holds, and seat 0 owns just these references, of which its view tells the words of the files, in the lives
 -- that the slots are in

@@ -3,7 +3,7 @@ use Rattle.std.specs.Prelude.{◌≡◌, Some}
 use Rattle.plain_audit.specs.plain_state.declared.slot.SlotId.{SlotId}
 use Rattle.plain_audit.specs.plain_state.declared.slot.Stage.TheVariants.{Live}
 use Rattle.plain_audit.specs.plain_state.State.{Plain, no_payload, slot_at, stage_at}
-use Rattle.plain_audit.specs.Reached.{IsUnreached}
+pub use Rattle.record_counts.specs.Records.{IsAllReached}
 
 -- the slot lives, and has a node's payload
 abbrev pub IsLiveNode : Plain → SlotId → Type 0
@@ -16,7 +16,3 @@ HasNoNode p = (s : SlotId) → ¬ (IsLiveNode p s)
 abbrev pub HasNoNodeAsItem : Plain → Type 0
 HasNoNodeAsItem p =
     (s r : SlotId) → IsLiveNode p s → (slot_at p s).second ≡ Some r → ¬ (IsLiveNode p r)
-
--- nothing is unreached
-abbrev pub IsAllReached : Plain → Type 0
-IsAllReached p = (s : SlotId) → ¬ (IsUnreached p s)

@@ -1,9 +1,9 @@
 use Rattle.std.proofs.Common.{ap, ◌∙◌, sym}
 use Rattle.std.specs.Prelude.{length}
 use Rattle.lane_files.specs.cdrc_text.Fold.{File}
-use Rattle.lane_files.proofs.Pieces.{pieces_many}
+use Rattle.lane_domain.proofs.Below.lane_work_Pieces.{pieces_many}
 use Rattle.lane_domain.specs.Sizes.{interns_of}
-use Rattle.lane_domain.proofs.Sums.{listed_more}
+use Rattle.lane_domain.proofs.Below.lane_work_Sums.{listed_more}
 use Rattle.lane_domain.proofs.tickets.list_interns.Goals as goal
 
 pub loop-ticket-preserved : goal.loop-ticket-preserved

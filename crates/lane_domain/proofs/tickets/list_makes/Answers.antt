@@ -1,10 +1,10 @@
 use Rattle.std.proofs.Common.{◌+◌, ap, arith}
 use Rattle.std.specs.Prelude.{length}
 use Rattle.lane_files.specs.cdrc_text.Fold.{File}
-use Rattle.lane_files.proofs.Pieces.{pieces_many}
+use Rattle.lane_domain.proofs.Below.lane_work_Pieces.{pieces_many}
 use Rattle.lane_domain.specs.Sizes.{makes_of, slots_of_words}
-use Rattle.lane_domain.proofs.Limits.{parts_few}
-use Rattle.lane_domain.proofs.Sums.{listed_more}
+use Rattle.lane_domain.proofs.Below.lane_work_Limits.{parts_few}
+use Rattle.lane_domain.proofs.Below.lane_work_Sums.{listed_more}
 use Rattle.lane_domain.proofs.tickets.list_makes.Goals as goal
 
 pub overflow_add-len : goal.overflow_add-len

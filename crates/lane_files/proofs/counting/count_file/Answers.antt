@@ -9,7 +9,7 @@ use Rattle.lane_files.specs.FilePieces.{pieces_in}
 use Rattle.lane_files.specs.Makes.{cause_at}
 use Rattle.lane_files.specs.Next.{CountsNext}
 use Rattle.lane_files.proofs.Counted.{IsCounted, begun, counted_none, counts_on, held_by, stopped_begun}
-use Rattle.lane_files.proofs.Pieces.{pieces_many, sized}
+use Rattle.lane_work.proofs.Pieces.{pieces_many, sized}
 use Rattle.lane_files.proofs.counting.count_file.Goals as goal
 
 pub loop-number-init : goal.loop-number-init

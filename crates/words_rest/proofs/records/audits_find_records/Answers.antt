@@ -1,6 +1,6 @@
 use Rattle.std.proofs.Common.{◌∙◌}
 use Rattle.words_rest.proofs.Living.{none_cyclic, none_deferred, none_lives}
-use Rattle.words_rest.proofs.Sums.{no_bytes, no_slots}
+use Rattle.record_counts.proofs.Sums.{no_bytes, no_slots}
 use Rattle.words_rest.proofs.Summed.{bytes_told, slots_told}
 use Rattle.words_rest.proofs.records.audits_find_records.Goals as goal
 

@@ -1,5 +1,5 @@
 use Rattle.words_rest.proofs.Living.{none_lives}
-use Rattle.words_rest.proofs.Sums.{no_bytes, no_slots}
+use Rattle.record_counts.proofs.Sums.{no_bytes, no_slots}
 use Rattle.words_rest.proofs.records.nothing_is_left.Goals as goal
 
 pub returns : goal.returns

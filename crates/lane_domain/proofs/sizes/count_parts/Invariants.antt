@@ -1,8 +1,0 @@
-use Rattle.std.proofs.Common.{◌≡◌}
-use Rattle.std.specs.Prelude.{sum_by, take}
-use Rattle.lane_files.specs.cdrc_text.Text.{slots_of_word}
-use Rattle.lane_files.specs.FilePieces.{pieces_in}
-use Rattle.lane_domain.proofs.sizes.count_parts.Given as goal
-
-abbrev pub invariant-loop-number : goal.invariant-loop-number
-invariant-loop-number l = l.parts ≡ sum_by slots_of_word (take l.number (pieces_in l.file))

@@ -1,0 +1,4 @@
+pub mod Admitting
+pub mod Limits
+pub mod Pieces
+pub mod Sums

@@ -1,0 +1,13 @@
+pub mod Below
+pub mod Sums
+pub mod Finite
+pub mod Lengths
+pub mod Added
+pub mod Listed
+pub mod Chains
+pub mod Pieces
+pub mod Living
+pub mod Summed
+pub mod Told
+pub mod Joined
+pub mod Reported
