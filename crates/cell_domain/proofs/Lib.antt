@@ -1,0 +1,10 @@
+pub mod Below
+pub mod Numbers
+pub mod Shapes
+pub mod Seats
+pub mod Listed
+pub mod Threads
+pub mod Room
+pub mod Enough
+pub mod Distinct
+pub mod Alone

@@ -1,0 +1,11 @@
+pub mod Owning
+pub mod Viewed
+pub mod Tallied
+pub mod Records
+pub mod Counted
+pub mod Pieces
+pub mod Stopped
+pub mod Tickets
+pub mod Runs
+pub mod Endings
+pub mod Shares

@@ -1,0 +1,5 @@
+pub mod Told
+pub mod Joining
+pub mod Settled
+pub mod KeptWords
+pub mod Left
