@@ -1,0 +1,9 @@
+pub mod Telling
+pub mod Staying
+pub mod Listing
+pub mod RowsMade
+pub mod Nulls
+pub mod Cleared
+pub mod Dropped
+pub mod Auditable
+pub mod Alive
