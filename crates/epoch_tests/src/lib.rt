@@ -1,5 +1,5 @@
-//! Tests of counted references under epochs: objects, places, regions, flushes, leaves and images, by one seat, by two,
-//! and by threads.
+//! Tests of counted references under epochs: objects, places, regions, flushes, leaves and images, by one seat and by
+//! two.
 //!
 //! It is for its tests alone, and promises nothing: without them it is empty. Its players are those of `epoch_players`.
 //!
@@ -16,7 +16,3 @@ mod rows;
 mod rows_quotas;
 #[cfg(test)]
 mod tests;
-#[cfg(test)]
-mod tests_beside;
-#[cfg(test)]
-mod tests_threads;

@@ -1,5 +1,5 @@
 use Rattle.epoch_players.specs.Plays.{Plays}
-use Rattle.epoch_tests.proofs.tests_beside.write_turns.Given as goal
+use Rattle.epoch_thread_tests.proofs.beside.write_turns.Given as goal
 
 abbrev pub invariant-loop-turn : goal.invariant-loop-turn
 invariant-loop-turn l =

@@ -1,6 +1,6 @@
 use Rattle.std.proofs.lemmas.List.Elements.{All-pop}
 use Rattle.epoch_refs.specs.Walks.{IsFree}
-use Rattle.epoch_tests.proofs.tests_threads.leave_last.Goals as goal
+use Rattle.epoch_thread_tests.proofs.threads.leave_last.Goals as goal
 
 pub returns-clause-done : goal.returns-clause-done
 returns-clause-done c =

@@ -1,5 +1,5 @@
 use Rattle.epoch_players.specs.Plays.{Plays}
-use Rattle.epoch_tests.proofs.tests_threads.play_all.Given as goal
+use Rattle.epoch_thread_tests.proofs.threads.play_all.Given as goal
 
 abbrev pub invariant-loop-act : goal.invariant-loop-act
 invariant-loop-act l =

@@ -1,5 +1,5 @@
 use Rattle.epoch_players.specs.Plays.{Plays}
-use Rattle.epoch_tests.proofs.tests_beside.read_from.Given as goal
+use Rattle.epoch_thread_tests.proofs.beside.read_from.Given as goal
 
 abbrev pub invariant-loop-index : goal.invariant-loop-index
 invariant-loop-index l =

@@ -1,6 +1,6 @@
 use Rattle.std.specs.Prelude.{◌≡◌, All}
 use Rattle.epoch_refs.specs.Walks.{IsFree}
-use Rattle.epoch_tests.proofs.tests_threads.leave_all.Given as goal
+use Rattle.epoch_thread_tests.proofs.threads.leave_all.Given as goal
 
 abbrev pub invariant-loop-seat : goal.invariant-loop-seat
 invariant-loop-seat l =

@@ -1,5 +1,5 @@
 use Rattle.epoch_players.specs.Plays.{Plays}
-use Rattle.epoch_tests.proofs.tests_beside.prepare.Given as goal
+use Rattle.epoch_thread_tests.proofs.beside.prepare.Given as goal
 
 abbrev pub invariant-loop-cell : goal.invariant-loop-cell
 invariant-loop-cell l =
