@@ -7,7 +7,7 @@ use Rattle.lane_reports.specs.declared.counted.Counted.{Counted}
 use Rattle.lane_reports.specs.declared.counted.CountError.{CountError}
 use Rattle.lane_reports.specs.declared.counted.CountError.TheVariants as uncounted
 use Rattle.lane_reports.specs.cdrc_text.Pieces.{pieces_of}
-use Rattle.lane_reports.specs.lane_files.declared.work.Work.{Work}
+use Rattle.lane_reports.specs.lane_files.lane_work.declared.work.Work.{Work}
 use Rattle.lane_reports.specs.lane_domain.Sizes.{texts_in}
 use Rattle.words_work.specs.Beginnings.{IsWhyStopped, most_of}
 use Rattle.words_work.specs.Limits.{slots_needed}

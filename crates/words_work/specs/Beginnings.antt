@@ -3,7 +3,7 @@ use Rattle.std.specs.Prelude.{ℕ, ◌≡◌, ◌≤◌, ◌<◌, List, Some, No
 use Rattle.std.specs.declared.option.Option.{Option}
 use Rattle.lane_reports.specs.queue_law.declared.view.Form.{Form}
 use Rattle.lane_reports.specs.cdrc_text.Text.{IsReport}
-use Rattle.lane_reports.specs.lane_files.declared.work.Work.{Work}
+use Rattle.lane_reports.specs.lane_files.lane_work.declared.work.Work.{Work}
 use Rattle.lane_reports.specs.lane_domain.Sizes.{texts_in}
 use Rattle.lane_reports.specs.Counting.{CountsAll}
 use Rattle.lane_reports.specs.HolderCounts.{CountsHolders}

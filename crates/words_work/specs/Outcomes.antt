@@ -7,7 +7,7 @@ use Rattle.lane_reports.specs.words_law.Views.{View}
 use Rattle.lane_reports.specs.cdrc_text.Pieces.{pieces_of}
 use Rattle.lane_reports.specs.cdrc_text.Text.{IsText}
 use Rattle.lane_reports.specs.lane_gate.Causes.{Rose}
-use Rattle.lane_reports.specs.lane_files.declared.work.Work.{Work}
+use Rattle.lane_reports.specs.lane_files.lane_work.declared.work.Work.{Work}
 use Rattle.lane_reports.specs.lane_domain.Sizes.{texts_in}
 use Rattle.lane_reports.specs.Counting.{CountsAll}
 use Rattle.lane_reports.specs.HolderCounts.{CountsHolders}

@@ -18,8 +18,7 @@ use std::collections::HashSet;
 use std::sync::Wait;
 use std::thread::Threads;
 
-/// How many slots lanes have under way beside those that grow with the lanes: while one lane waits for a processor with
-/// a node under its announcement, the others pop on, and what they pop is freed behind that node.
+/// How many slots lanes have under way beside those that grow with the lanes: nodes that are popped and wait to be freed.
 const UNDER_WAY: u64 = 16_384;
 
 /// So many slots serve, whatever the lanes do: one for each object that is made.
@@ -46,14 +45,19 @@ fn add_words<'a>(words: &mut HashSet<&'a [u8]>, file: &'a FileText) -> Result<u6
 }
 
 /// How many slots the work is likely to need on so many lanes: those of its distinct words' records, and what lanes
-/// can have under way, as nodes that wait or are not yet freed, and records of words that two lanes make at once. It
-/// needn't be enough. A step for each piece.
+/// can have under way, as nodes that wait or are not yet freed, and records of words that two lanes make at once. With
+/// more lanes than one that is one for each piece besides: while a lane waits for a processor with a node under its
+/// announcement, the others pop on, and what they pop is freed behind that node. It needn't be enough. A step for each
+/// piece.
 fn guess(alloc: Global, work: &Work, lanes: u32) -> Result<u64, OutOfMemory>
     requires work { IsWork work.now }
     requires lanes { lanes ≤ most_lanes }
 {
     let seats = u64::from(lanes) + 1;
     let mut slots = UNDER_WAY + 64 * seats * seats;
+    if lanes > 1 {
+        slots = slots.saturating_add(count_pieces(work));
+    }
     let mut words = HashSet::new(alloc);
     for ticket in 0..work.files.len() as u64 {
         slots = slots.saturating_add(add_words(&mut words, work.file(ticket))?);
