@@ -1,16 +1,13 @@
 //! Tests of whole runs as calls of these libraries: what no clause says and no command line can tell.
 //!
 //! They are runs over files and sinks that fail where they are told to, runs past a limit, gates, the evidence that a
-//! run leaves, how often objects are weighed, and the host's files and output over a runtime that has trouble. Here is
-//! nothing but tests, so nothing is promised.
+//! run leaves, and how often objects are weighed. Here is nothing but tests, so nothing is promised.
 #![tactic(auto)]
 
 #[cfg(test)]
 mod beginnings;
 #[cfg(test)]
 mod gates;
-#[cfg(test)]
-mod host_trouble;
 #[cfg(test)]
 mod limits;
 #[cfg(test)]
