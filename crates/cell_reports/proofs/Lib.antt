@@ -1,0 +1,9 @@
+pub mod Heads
+pub mod Ran
+pub mod Begun
+pub mod Refused
+pub mod Words
+pub mod AtRest
+pub mod Kept
+pub mod Rows
+pub mod Written
