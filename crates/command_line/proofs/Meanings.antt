@@ -3,15 +3,16 @@ use Rattle.std.proofs.Common.{◌≡◌, ◌∙◌, ◌<◌, ◌≤◌, ◌-◌,
 use Rattle.clap.specs.declared.parser.matches.ArgMatches.{ArgMatches}
 use Rattle.run_requests.specs.declared.asked.Bulk.{Bulk}
 use Rattle.run_requests.specs.declared.asked.Draws.{Draws}
+use Rattle.run_requests.specs.declared.asked.Protect.{Protect}
 use Rattle.run_requests.specs.declared.asked.WordsArgs.{WordsArgs}
 use Rattle.command_line.specs.declared.settings.Settings.{Settings}
 use Rattle.command_line.specs.Parts.{Part, Text, IsLine, IsOneOf, operands_of, values_of}
 use Rattle.command_line.specs.Found.{ArePlain, Shows, are_names, found_under, operands_name}
 use Rattle.command_line.specs.Requests.{bulk_options, words_options, AreDraws, AreSettings, AreWords, IsBulk, IsDrawn, IsFile, IsGen, Reads}
-use Rattle.command_line.specs.Values.{IsLanes, IsNumberWithin, IsQueue, IsRounds, IsSlots}
+use Rattle.command_line.specs.Values.{IsLanes, IsNumberWithin, IsProtect, IsQueue, IsRounds, IsSlots, SuitsQueue}
 use Rattle.command_line.proofs.Given.{texts}
 use Rattle.command_line.proofs.OneLine.{one_line}
-use Rattle.command_line.proofs.Plain.{AreOperands, numbers_plain, parts_plain, queue_plain, slots_plain}
+use Rattle.command_line.proofs.Plain.{AreOperands, numbers_plain, parts_plain, protect_plain, queue_plain, slots_plain}
 
 -- clap refused the words
 abbrev pub NoLine : List Text → List Text → Type 0
@@ -39,7 +40,8 @@ words_plain words parts later args line means = parts_plain words_options words 
     all option (inr (inl is)) = subst (λ (o : Text). AreOperands (values_of o parts)) (sym is) (numbers_plain 1 1 1000 (values_of (codes "rounds") parts) args.rounds means.rounds)
     all option (inr (inr (inl is))) = subst (λ (o : Text). AreOperands (values_of o parts)) (sym is) (slots_plain (values_of (codes "slots") parts) args.slots means.slots)
     all option (inr (inr (inr (inl is)))) = subst (λ (o : Text). AreOperands (values_of o parts)) (sym is) (queue_plain (values_of (codes "queue") parts) args.double means.queue)
-    all option (inr (inr (inr (inr refused)))) = absurd refused
+    all option (inr (inr (inr (inr (inl is))))) = subst (λ (o : Text). AreOperands (values_of o parts)) (sym is) (protect_plain (values_of (codes "protect") parts) args.protect means.protect)
+    all option (inr (inr (inr (inr (inr refused))))) = absurd refused
 
 -- ---- a line that means something has the operands and the values that were found
 
@@ -108,9 +110,9 @@ bulk_none words m s refused bulk means =
 
 pub words_found : (words : List Text) (m : ArgMatches) (settings : Settings) (args : WordsArgs) → Shows words_options words m → AreSettings m settings
     → map string_bytes args.names.items ≡ found_under operands_name m → 0 < length (found_under operands_name m)
-    → args.lanes ≡ settings.lanes → args.rounds ≡ settings.rounds → args.slots ≡ settings.slots → args.double ≡ settings.double
+    → args.lanes ≡ settings.lanes → args.rounds ≡ settings.rounds → args.slots ≡ settings.slots → args.double ≡ settings.double → args.protect ≡ settings.protect
     → Reads words_options words (AreWords args)
-words_found words m settings args s is names some lanes rounds slots double = (
+words_found words m settings args s is names some lanes rounds slots double protect = (
   s.parts,
   s.later,
   s.line,
@@ -125,6 +127,10 @@ words_found words m settings args s is names some lanes rounds slots double = (
         (subst (λ (vs : List Text). IsSlots vs settings.slots) (s.values (codes "slots") (inr (inr (inl refl)))) is.slots);
     queue = subst (λ (b : Bool). IsQueue (values_of (codes "queue") s.parts) b) (sym double)
         (subst (λ (vs : List Text). IsQueue vs settings.double) (s.values (codes "queue") (inr (inr (inr (inl refl))))) is.queue);
+    protect = subst (λ (p : Protect). IsProtect (values_of (codes "protect") s.parts) p) (sym protect)
+        (subst (λ (vs : List Text). IsProtect vs settings.protect) (s.values (codes "protect") (inr (inr (inr (inr (inl refl)))))) is.protect);
+    suits = subst (λ (p : Protect). SuitsQueue (values_of (codes "queue") s.parts) p) (sym protect)
+        (subst (λ (vs : List Text). SuitsQueue vs settings.protect) (s.values (codes "queue") (inr (inr (inr (inl refl))))) is.suits);
   },
 )
 
@@ -135,11 +141,13 @@ pub words_unset : (words : List Text) (m : ArgMatches) → Shows words_options w
     → (args : WordsArgs) → Reads words_options words (AreWords args) → ⊥
 words_unset words m s refused args means =
     let same = same_values words_options words refl m s means.0 means.1 means.2 in
-    refused (record { lanes = args.lanes; rounds = args.rounds; slots = args.slots; double = args.double }) (record {
+    refused (record { lanes = args.lanes; rounds = args.rounds; slots = args.slots; double = args.double; protect = args.protect }) (record {
       lanes = subst (λ (vs : List Text). IsLanes vs args.lanes) (same (codes "lanes") (inl refl)) means.3.lanes;
       rounds = subst (λ (vs : List Text). IsRounds vs args.rounds) (same (codes "rounds") (inr (inl refl))) means.3.rounds;
       slots = subst (λ (vs : List Text). IsSlots vs args.slots) (same (codes "slots") (inr (inr (inl refl)))) means.3.slots;
       queue = subst (λ (vs : List Text). IsQueue vs args.double) (same (codes "queue") (inr (inr (inr (inl refl))))) means.3.queue;
+      protect = subst (λ (vs : List Text). IsProtect vs args.protect) (same (codes "protect") (inr (inr (inr (inr (inl refl)))))) means.3.protect;
+      suits = subst (λ (vs : List Text). SuitsQueue vs args.protect) (same (codes "queue") (inr (inr (inr (inl refl))))) means.3.suits;
     })
 
 pub words_none : (words : List Text) (m : ArgMatches) → Shows words_options words m → length (found_under operands_name m) ≡ 0

@@ -5,13 +5,14 @@ use Rattle.line_words.specs.Number.{IsNumber}
 use Rattle.line_words.proofs.Decimal.{one-number_of}
 use Rattle.run_requests.specs.declared.asked.Bulk.{Bulk}
 use Rattle.run_requests.specs.declared.asked.Draws.{Draws}
+use Rattle.run_requests.specs.declared.asked.Protect.{Protect}
 use Rattle.run_requests.specs.declared.asked.Request.{Request}
 use Rattle.run_requests.specs.declared.asked.Request.TheVariants as request
 use Rattle.run_requests.specs.declared.asked.WordsArgs.{WordsArgs}
 use Rattle.command_line.specs.Parts.{Part, Text, IsLine, operands_of, values_of}
 use Rattle.command_line.specs.Found.{are_names}
 use Rattle.command_line.specs.Requests.{bulk_options, words_options, AreDraws, AreWords, Asks, IsBulk, IsFile, IsGen, IsSame, Reads}
-use Rattle.command_line.specs.Values.{IsLanes, IsNumberOr, IsNumberWithin, IsQueue, IsRounds, IsSlots}
+use Rattle.command_line.specs.Values.{IsLanes, IsNumberOr, IsNumberWithin, IsProtect, IsQueue, IsRounds, IsSlots}
 use Rattle.command_line.proofs.Commands.{differs, rest_is}
 use Rattle.command_line.proofs.OneLine.{one_line}
 
@@ -37,6 +38,17 @@ one_queue (word ∷ []) c d (inl a) (inr b) = absurd (linked_or_double word a.0 
 one_queue (word ∷ []) c d (inr a) (inl b) = absurd (linked_or_double word b.0 a.0)
 one_queue (word ∷ []) c d (inr a) (inr b) = a.1 ∙ sym b.1
 one_queue (word ∷ more ∷ words) c d a b = absurd a
+
+announce_or_epoch : (word : Text) → word ≡ codes "announce" → word ≡ codes "epoch" → ⊥
+announce_or_epoch word a b = true≢false (sym ((bytes_eq-Decides (codes "announce") (codes "epoch")).1 (sym a ∙ b)))
+
+one_protect : (values : List Text) (p q : Protect) → IsProtect values p → IsProtect values q → p ≡ q
+one_protect [] p q a b = a ∙ sym b
+one_protect (word ∷ []) p q (inl a) (inl b) = a.1 ∙ sym b.1
+one_protect (word ∷ []) p q (inl a) (inr b) = absurd (announce_or_epoch word a.0 b.0)
+one_protect (word ∷ []) p q (inr a) (inl b) = absurd (announce_or_epoch word b.0 a.0)
+one_protect (word ∷ []) p q (inr a) (inr b) = a.1 ∙ sym b.1
+one_protect (word ∷ more ∷ words) p q a b = absurd a
 
 one_within : (word other : Text) (n m least most : ℕ) → word ≡ other → IsNumberWithin least most word n → IsNumberWithin least most other m → n ≡ m
 one_within word other n m least most same a b = one-number_of other n m (subst (λ (w : Text). IsNumber w n) same a.0) b.0
@@ -88,6 +100,7 @@ one_words words others a b same x y =
       one_numbers 1 1 1000 (values_of (codes "rounds") y.0) a.rounds b.rounds (subst (λ (vs : List Text). IsRounds vs a.rounds) (values (codes "rounds")) x.3.rounds) y.3.rounds,
       one_slots (values_of (codes "slots") y.0) a.slots b.slots (subst (λ (vs : List Text). IsSlots vs a.slots) (values (codes "slots")) x.3.slots) y.3.slots,
       one_queue (values_of (codes "queue") y.0) a.double b.double (subst (λ (vs : List Text). IsQueue vs a.double) (values (codes "queue")) x.3.queue) y.3.queue,
+      one_protect (values_of (codes "protect") y.0) a.protect b.protect (subst (λ (vs : List Text). IsProtect vs a.protect) (values (codes "protect")) x.3.protect) y.3.protect,
     )
 
 pub one_request : (line : List Text) (asked other : Request) → Asks line asked → Asks line other → IsSame asked other

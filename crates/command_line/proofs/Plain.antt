@@ -4,9 +4,10 @@ use Rattle.std.specs.Prelude.{⊤}
 use Rattle.std.specs.Str.{bytes_eq}
 use Rattle.std.proofs.lemmas.Slice.Eq.{bytes_eq-Decides}
 use Rattle.line_words.specs.Number.{IsNumber}
+use Rattle.run_requests.specs.declared.asked.Protect.{Protect}
 use Rattle.command_line.specs.Parts.{Part, Text, IsLine, IsOneOf, IsOperand, apart, joined, operand, value_in, values_of}
 use Rattle.command_line.specs.Found.{ArePlain}
-use Rattle.command_line.specs.Values.{IsNumberOr, IsQueue, IsSlots}
+use Rattle.command_line.specs.Values.{IsNumberOr, IsProtect, IsQueue, IsSlots}
 
 abbrev pub AreOperands : List Text → Type 0
 AreOperands [] = ⊤
@@ -44,6 +45,14 @@ queue_plain (word ∷ []) double (inl is) =
 queue_plain (word ∷ []) double (inr is) =
     (first_letter word 100 (ap (λ (w : Text). get_or w 0 0) is.0) (λ e. absurd (omega (arith, e))), tt)
 queue_plain (word ∷ more ∷ words) double is = absurd is
+
+pub protect_plain : (values : List Text) (protect : Protect) → IsProtect values protect → AreOperands values
+protect_plain [] protect is = tt
+protect_plain (word ∷ []) protect (inl is) =
+    (first_letter word 97 (ap (λ (w : Text). get_or w 0 0) is.0) (λ e. absurd (omega (arith, e))), tt)
+protect_plain (word ∷ []) protect (inr is) =
+    (first_letter word 101 (ap (λ (w : Text). get_or w 0 0) is.0) (λ e. absurd (omega (arith, e))), tt)
+protect_plain (word ∷ more ∷ words) protect is = absurd is
 
 all_after : (xs ys : List Text) → AreOperands (xs ++ ys) → AreOperands ys
 all_after [] ys h = h

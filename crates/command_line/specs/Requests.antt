@@ -2,7 +2,7 @@
 use Rattle.std.specs.Prelude.{ℕ, ◌-◌, ◌^◌, ◌≡◌, ◌<◌, List, [], ◌∷◌, length, map, codes, string_bytes}
 use Rattle.std.specs.declared.option.Option.{Option}
 use Rattle.command_line.specs.Parts.{Part, Text, IsLine, operands_of, values_of}
-use Rattle.command_line.specs.Values.{IsLanes, IsNumberWithin, IsQueue, IsRounds, IsSlots}
+use Rattle.command_line.specs.Values.{IsLanes, IsNumberWithin, IsProtect, IsQueue, IsRounds, IsSlots, SuitsQueue}
 use Rattle.run_requests.specs.declared.asked.Request.{Request}
 use Rattle.run_requests.specs.declared.asked.Request.TheVariants as request
 use Rattle.run_requests.specs.declared.asked.WordsArgs.{WordsArgs}
@@ -13,7 +13,8 @@ use Rattle.clap.specs.declared.parser.matches.ArgMatches.{ArgMatches}
 use Rattle.command_line.specs.Found.{found_under, operands_name}
 
 abbrev pub words_options : List Text
-words_options = codes "lanes" ∷ codes "rounds" ∷ codes "slots" ∷ codes "queue" ∷ []
+words_options =
+    codes "lanes" ∷ codes "rounds" ∷ codes "slots" ∷ codes "queue" ∷ codes "protect" ∷ []
 
 abbrev pub bulk_options : List Text
 bulk_options = codes "lanes" ∷ []
@@ -33,6 +34,8 @@ pub record AreWords (args : WordsArgs) (parts : List Part)
   pub rounds : IsRounds (values_of (codes "rounds") parts) args.rounds
   pub slots : IsSlots (values_of (codes "slots") parts) args.slots
   pub queue : IsQueue (values_of (codes "queue") parts) args.double
+  pub protect : IsProtect (values_of (codes "protect") parts) args.protect
+  pub suits : SuitsQueue (values_of (codes "queue") parts) args.protect
 
 -- one file
 abbrev pub IsFile : Text → List Part → Option (List Text) → Type 0
@@ -74,6 +77,8 @@ pub record AreSettings (matches : ArgMatches) (settings : Settings) : Type 0 whe
   pub rounds : IsRounds (found_under (codes "rounds") matches) settings.rounds
   pub slots : IsSlots (found_under (codes "slots") matches) settings.slots
   pub queue : IsQueue (found_under (codes "queue") matches) settings.double
+  pub protect : IsProtect (found_under (codes "protect") matches) settings.protect
+  pub suits : SuitsQueue (found_under (codes "queue") matches) settings.protect
 
 abbrev pub IsDrawn : ArgMatches → Drawn → Type 0
 IsDrawn matches bulk = AreDraws 500000 bulk.draws (found_under operands_name matches)
@@ -84,6 +89,7 @@ abbrev pub IsSame : Request → Request → Type 0
 IsSame (request.Words a) (request.Words b) =
     (map string_bytes a.names.items ≡ map string_bytes b.names.items)
     × (a.lanes ≡ b.lanes) × (a.rounds ≡ b.rounds) × (a.slots ≡ b.slots) × (a.double ≡ b.double)
+    × (a.protect ≡ b.protect)
 IsSame (request.Script a) (request.Script b) = string_bytes a ≡ string_bytes b
 IsSame (request.Steps a) (request.Steps b) = string_bytes a ≡ string_bytes b
 IsSame (request.Generate a) (request.Generate b) = a ≡ b

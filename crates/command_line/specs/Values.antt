@@ -1,8 +1,10 @@
 -- What the values of an option say. An option that comes twice has no meaning.
-use Rattle.std.specs.Prelude.{ℕ, ◌≡◌, ◌≤◌, ◌⊎◌, Bool, true, false, List, [], ◌∷◌, Some, None, codes}
+use Rattle.std.specs.Prelude.{ℕ, ◌≡◌, ◌≤◌, ◌⊎◌, ⊤, Bool, true, false, List, [], ◌∷◌, Some, None, codes}
 use Rattle.std.specs.declared.option.Option.{Option}
 use Rattle.plain_state.specs.Limits.{most_slots}
 use Rattle.line_words.specs.Number.{IsNumber}
+use Rattle.run_requests.specs.declared.asked.Protect.{Protect}
+use Rattle.run_requests.specs.declared.asked.Protect.TheVariants.{Announce, Epoch}
 use Rattle.command_line.specs.Parts.{Text}
 
 -- the word spells n, which is within these bounds
@@ -33,3 +35,16 @@ IsQueue [] double = double ≡ false
 IsQueue (word ∷ []) double =
     ((word ≡ codes "linked") × (double ≡ false)) ⊎ ((word ≡ codes "double") × (double ≡ true))
 IsQueue (word ∷ more ∷ words) double = ⊥
+
+-- how what lanes read is kept, by default by announcements
+abbrev pub IsProtect : List Text → Protect → Type 0
+IsProtect [] protect = protect ≡ Announce
+IsProtect (word ∷ []) protect =
+    ((word ≡ codes "announce") × (protect ≡ Announce))
+    ⊎ ((word ≡ codes "epoch") × (protect ≡ Epoch))
+IsProtect (word ∷ more ∷ words) protect = ⊥
+
+-- lanes under regions share no queue, so that its option goes with announcements alone
+abbrev pub SuitsQueue : List Text → Protect → Type 0
+SuitsQueue queue_values Announce = ⊤
+SuitsQueue queue_values Epoch = queue_values ≡ []

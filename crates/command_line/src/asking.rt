@@ -16,7 +16,7 @@ use line_words::OutOfMemory;
 use run_requests::{Bulk, Draws, Request, WordsArgs};
 use std::alloc::Global;
 
-static WORDS_OPTIONS: [&str; 4] = ["lanes", "rounds", "slots", "queue"];
+static WORDS_OPTIONS: [&str; 5] = ["lanes", "rounds", "slots", "queue", "protect"];
 
 static BULK_OPTIONS: [&str; 1] = ["lanes"];
 
@@ -157,6 +157,7 @@ fn words_args(alloc: Global, words: &[String]) -> Result<Option<WordsArgs>, OutO
         rounds: settings.rounds,
         slots: settings.slots,
         double: settings.double,
+        protect: settings.protect,
     }))
 }
 

@@ -9,13 +9,15 @@
 //!
 //! | Command | Options | Operands |
 //! |---|---|---|
-//! | `words` | `--lanes`, `--rounds`, `--slots`, `--queue` | one or more files |
+//! | `words` | `--lanes`, `--rounds`, `--slots`, `--queue`, `--protect` | one or more files |
 //! | `script`, `steps` | none | one file |
 //! | `gen` | none | SEED below 2^64, WORDS up to 1,000,000, VOCABULARY 1 to 1,000,000 |
 //! | `bulk` | `--lanes` | SEED, WORDS up to 500,000, VOCABULARY as in `gen` |
 //!
 //! `--lanes` has 1 to 31, by default 2. `--rounds` has 1 to 1,000, by default 1. `--slots` has 1 to 4,194,304, and
-//! there are none by default. `--queue` has `linked` or `double`, by default `linked`.
+//! there are none by default. `--queue` has `linked` or `double`, by default `linked`. `--protect` has `announce` or
+//! `epoch`, by default `announce`; `epoch` is refused beside `--queue`, whatever value that has, since lanes under
+//! regions share no queue.
 //!
 //! Only an allocation failure is left open: no contract says when it comes. Files aren't opened here.
 //!
@@ -39,4 +41,4 @@ mod settings;
 pub use crate::asking::request;
 pub use line_words::{OutOfMemory, Tally, generate};
 pub use plain_state::PayloadKind;
-pub use run_requests::{Bulk, Draws, Request, WordsArgs};
+pub use run_requests::{Bulk, Draws, Protect, Request, WordsArgs};

@@ -1,12 +1,14 @@
 //! What the values of an option mean. Of an option that comes twice there are two values, which mean nothing.
-ghost use Rattle.std.specs.Prelude.{ℕ, Bool, IfSome, IsNone, codes, map};
+ghost use Rattle.std.specs.Prelude.{◌≡◌, ℕ, Bool, IfSome, IsNone, codes, map, true};
 ghost use Rattle.std.specs.declared.option.Option.{Option as Maybe};
 ghost use Rattle.command_line.specs.Found.{found_under};
-ghost use Rattle.command_line.specs.Values.{IsLanes, IsQueue, IsRounds, IsSlots};
+ghost use Rattle.command_line.specs.Values.{IsLanes, IsProtect, IsQueue, IsRounds, IsSlots, SuitsQueue};
+ghost use Rattle.run_requests.specs.declared.asked.Protect.{Protect as Kept};
 
 use crate::numbers::{number_or, number_within};
 use clap::ArgMatches;
 use plain_state::MOST_SLOTS;
+use run_requests::Protect;
 
 /// How many lanes the values of `--lanes` mean. None exactly where they mean none.
 pub(crate) fn lanes(matches: &ArgMatches<'_>) -> Option<u32>
@@ -67,5 +69,40 @@ fn double_of(values: &[&str]) -> Option<bool>
             _ => None,
         },
         _ => None,
+    }
+}
+
+/// How the values of `--protect` say that what lanes read is kept. None exactly where they say nothing.
+pub(crate) fn protect(matches: &ArgMatches<'_>) -> Option<Protect>
+    ensures found { IfSome result (IsProtect (found_under (codes "protect") matches.now)) }
+    ensures none { IsNone result → (p : Kept) →
+        IsProtect (found_under (codes "protect") matches.now) p → ⊥ }
+{
+    protect_of(matches.get_raw("protect").unwrap_or(&[]))
+}
+
+fn protect_of(values: &[&str]) -> Option<Protect>
+    ensures found { IfSome result (IsProtect (map (λ v. v.now) values.now)) }
+    ensures none { IsNone result → (p : Kept) → IsProtect (map (λ v. v.now) values.now) p → ⊥ }
+{
+    match values {
+        [] => Some(Protect::Announce),
+        [word] => match *word {
+            "announce" => Some(Protect::Announce),
+            "epoch" => Some(Protect::Epoch),
+            _ => None,
+        },
+        _ => None,
+    }
+}
+
+/// Whether lanes whose reads are kept so may be given the values of `--queue`.
+pub(crate) fn suits_queue(matches: &ArgMatches<'_>, protect: Protect) -> bool
+    ensures suits { result ≡ true → SuitsQueue (found_under (codes "queue") matches.now) protect }
+    ensures only { SuitsQueue (found_under (codes "queue") matches.now) protect → result ≡ true }
+{
+    match protect {
+        Protect::Announce => true,
+        Protect::Epoch => matches.get_raw("queue").unwrap_or(&[]).is_empty(),
     }
 }

@@ -3,8 +3,9 @@ ghost use Rattle.std.specs.Prelude.{IfSome, IsNone};
 ghost use Rattle.command_line.specs.Requests.{AreSettings};
 ghost use Rattle.command_line.specs.declared.settings.Settings.{Settings as Set};
 
-use crate::options::{double, lanes, rounds, slots};
+use crate::options::{double, lanes, protect, rounds, slots, suits_queue};
 use clap::ArgMatches;
+use run_requests::Protect;
 
 /// How the words of files are counted.
 #[derive(Clone, Copy, Drop)]
@@ -13,6 +14,7 @@ pub(crate) struct Settings {
     pub rounds: u64,
     pub slots: Option<u32>,
     pub double: bool,
+    pub protect: Protect,
 }
 
 /// The settings that the options mean. None exactly where they mean none.
@@ -20,10 +22,15 @@ pub(crate) fn settings_of(matches: &ArgMatches<'_>) -> Option<Settings>
     ensures found { IfSome result (AreSettings matches.now) }
     ensures none { IsNone result → (settings : Set) → AreSettings matches.now settings → ⊥ }
 {
+    let protect = protect(matches)?;
+    if !suits_queue(matches, protect) {
+        return None;
+    }
     Some(Settings {
         lanes: lanes(matches)?,
         rounds: rounds(matches)?,
         slots: slots(matches)?,
         double: double(matches)?,
+        protect,
     })
 }

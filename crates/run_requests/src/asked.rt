@@ -23,6 +23,14 @@ pub struct WordsArgs {
     pub rounds: u64,
     pub slots: Option<u32>,
     pub double: bool,
+    pub protect: Protect,
+}
+
+/// How what lanes read is kept: by announcements, or by regions that lanes open.
+#[derive(Clone, Copy, PartialEq, Eq, Debug, Drop)]
+pub enum Protect {
+    Announce,
+    Epoch,
 }
 
 /// So many words of a vocabulary of some size, drawn from a seed.

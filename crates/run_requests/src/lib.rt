@@ -4,11 +4,12 @@
 //! that takes it; nothing here checks them.
 //!
 //! ```text
-//! let args = WordsArgs { names, lanes: 2, rounds: 1, slots: None, double: false };
+//! let protect = Protect::Announce;
+//! let args = WordsArgs { names, lanes: 2, rounds: 1, slots: None, double: false, protect };
 //! words_work(rt, alloc, &args, &mut files, &Open, &weigh)?    // `command_line` makes them of words
 //! ```
 #![tactic(auto)]
 
 mod asked;
 
-pub use crate::asked::{Bulk, Draws, Request, WordsArgs};
+pub use crate::asked::{Bulk, Draws, Protect, Request, WordsArgs};

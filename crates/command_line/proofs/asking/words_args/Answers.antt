@@ -51,5 +51,5 @@ returns-clause-found c =
     let all = texts_length c.unwrap_or-operands.result.now in
     let same_length : length (found_under operands_name c.in-Some.matches) ≡ length c.unwrap_or-operands.result.now = sym (ap length same) ∙ all in
     words_found words c.in-Some.matches settings
-    (record { names = c.in_ok-copied.field-0; lanes = settings.lanes; rounds = settings.rounds; slots = settings.slots; double = settings.double })
-    shown c.in-Some-settings_of.ensures.found (c.in_ok-copied.ensures ∙ same) (omega (arith, some, same_length)) refl refl refl refl
+    (record { names = c.in_ok-copied.field-0; lanes = settings.lanes; rounds = settings.rounds; slots = settings.slots; double = settings.double; protect = settings.protect })
+    shown c.in-Some-settings_of.ensures.found (c.in_ok-copied.ensures ∙ same) (omega (arith, some, same_length)) refl refl refl refl refl
