@@ -19,7 +19,8 @@ use std::sync::Wait;
 use std::thread::Threads;
 use std::{env, io};
 use words_work::{
-    Deleter, HostFiles, NodeKind, Open, PairKind, PayloadKind, RecordKind, WordsArgs, words_work,
+    Deleter, HostFiles, NodeKind, Open, PairKind, PayloadKind, Protect, RecordKind, WordsArgs,
+    words_work,
 };
 
 /// The files that the command line names, one at least, on two lanes.
@@ -37,6 +38,7 @@ fn asked(rt: &HostRuntime) -> Option<WordsArgs>
         rounds: 1,
         slots: None,
         double: false,
+        protect: Protect::Announce,
     })
 }
 

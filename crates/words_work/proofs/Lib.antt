@@ -1,7 +1,2 @@
 pub mod Below
-pub mod Told
-pub mod Sizes
-pub mod Refusing
-pub mod Named
-pub mod Deciding
 pub mod Serving

@@ -1,22 +1,14 @@
--- How many slots serve the work on some contents.
-use Rattle.std.proofs.Common.{◌≡◌, ℕ, List, map, ap, ◌∙◌, arith}
+-- When a count is begun anew.
+use Rattle.std.proofs.Common.{◌≡◌, ℕ, List, arith}
 use Rattle.std.specs.Prelude.{IfErr, None, Ok, Err, Result}
 use Rattle.lane_reports.specs.queue_law.declared.view.Form.{Form}
 use Rattle.lane_reports.specs.Refusals.{IsWhyNothing}
 use Rattle.lane_reports.specs.declared.counted.Counted.{Counted}
 use Rattle.lane_reports.specs.declared.counted.CountError.{CountError}
 use Rattle.lane_reports.specs.declared.counted.CountError.TheVariants as uncounted
-use Rattle.lane_reports.specs.cdrc_text.Pieces.{pieces_of}
 use Rattle.lane_reports.specs.lane_files.lane_work.declared.work.Work.{Work}
-use Rattle.lane_reports.specs.lane_domain.Sizes.{texts_in}
-use Rattle.words_work.specs.Beginnings.{IsWhyStopped, most_of}
-use Rattle.words_work.specs.Limits.{slots_needed}
-use Rattle.words_work.specs.Outcomes.{IsWorkOn}
-
-pub most_is : (rounds : ℕ) (contents : List (List ℕ)) (work : Work) → IsWorkOn rounds contents work
-    → most_of work ≡ slots_needed rounds (map pieces_of contents)
-most_is rounds contents work on =
-    ap (λ (n : ℕ). slots_needed n (texts_in work)) on.often ∙ ap (slots_needed rounds) on.texts
+use Rattle.words_work.specs.Beginnings.{IsWhyStopped}
+use Rattle.file_work.specs.Limits.{most_of}
 
 -- a count on as many slots as serve is never refused as full
 pub why_anew : (fits : List ℕ → Type 0) (work : Work) (lanes most : ℕ) (form : Form)

@@ -12,11 +12,7 @@ use Rattle.lane_reports.specs.Reporting.{IsLast}
 use Rattle.lane_reports.specs.declared.counted.Counted.{Counted}
 use Rattle.lane_reports.specs.declared.counted.CountError.{CountError}
 use Rattle.lane_reports.specs.declared.counted.CountError.TheVariants as uncounted
-use Rattle.words_work.specs.Limits.{AreSlots, slots_needed}
-
--- so many slots serve the work, whatever the lanes do
-abbrev pub most_of : Work → ℕ
-most_of work = slots_needed work.rounds (texts_in work)
+use Rattle.file_work.specs.Limits.{AreSlots, most_of}
 
 -- The work was counted on a domain of slots as they are asked for: the report, seat 0 and the tallies are those of it.
 pub record IsCountOf (work : Work) (lanes : ℕ) (form : Form) (asked : Option ℕ) (counted : Counted)

@@ -1,48 +1,23 @@
 //! With how many slots a count begins, and that it begins anew where these are too few.
-ghost use Rattle.std.specs.Prelude.{◌≡◌, ◌≤◌, ◌^◌, IfErr, IfOk, None, length};
+ghost use Rattle.std.specs.Prelude.{◌≡◌, ◌≤◌, IfErr, IfOk, None};
 ghost use Rattle.lane_reports.specs.deleter.Weighing.{Weighs};
-ghost use Rattle.lane_reports.specs.plain_state.Limits.{most_slots};
-ghost use Rattle.lane_reports.specs.lane_files.FilePieces.{HasPieces, pieces_in};
 ghost use Rattle.lane_reports.specs.lane_files.Work.{IsWork};
 ghost use Rattle.lane_reports.specs.lane_domain.Sizes.{IsWithinLimits, most_lanes};
-ghost use Rattle.words_work.specs.Beginnings.{IsCountOf, IsWhyStopped, most_of};
-ghost use Rattle.words_work.specs.Limits.{IsPlan};
+ghost use Rattle.file_work.specs.Limits.{IsPlan, most_of};
+ghost use Rattle.words_work.specs.Beginnings.{IsCountOf, IsWhyStopped};
 
-use crate::plan::Plan;
+use file_work::{Plan, count_distinct_slots, slots_that_serve};
 use lane_reports::{
-    CountError, Counted, Deleter, FileText, Gate, NodeKind, OutOfMemory, PairKind, PayloadKind,
-    RecordKind, Work, count_pieces, count_slots, count_words,
+    CountError, Counted, Deleter, Gate, NodeKind, OutOfMemory, PairKind, PayloadKind, RecordKind,
+    Work, count_pieces, count_words,
 };
-use std::alloc::{AllocError, Global};
-use std::collections::HashSet;
+use std::alloc::Global;
 use std::sync::Wait;
 use std::thread::Threads;
 
-/// How many slots lanes have under way beside those that grow with the lanes: nodes that are popped and wait to be freed.
+/// How many slots lanes have under way beside those that grow with the lanes: nodes that are popped and wait to be
+/// freed.
 const UNDER_WAY: u64 = 16_384;
-
-/// So many slots serve, whatever the lanes do: one for each object that is made.
-fn slots_that_serve(work: &Work) -> u32
-    requires work { IsWork work.now }
-    requires within { IsWithinLimits work.now }
-    ensures { result ≡ most_of work.now }
-{
-    (work.rounds * (count_pieces(work) + count_slots(work)) + 2) as u32
-}
-
-/// The words of a file that aren't in the set yet join it. How many slots their records take. A step for each piece.
-fn add_words<'a>(words: &mut HashSet<&'a [u8]>, file: &'a FileText) -> Result<u64, AllocError>
-    requires lies { HasPieces file.now }
-{
-    let mut slots: u64 = 0;
-    for number in 0..file.pieces.len() {
-        let word = file.piece(number);
-        if words.insert(word)? {
-            slots = slots.saturating_add((word.len() as u64).div_ceil(120));
-        }
-    }
-    Ok(slots)
-}
 
 /// How many slots the work is likely to need on so many lanes: those of its distinct words' records, and what lanes
 /// can have under way, as nodes that wait or are not yet freed, and records of words that two lanes make at once. With
@@ -58,11 +33,7 @@ fn guess(alloc: Global, work: &Work, lanes: u32) -> Result<u64, OutOfMemory>
     if lanes > 1 {
         slots = slots.saturating_add(count_pieces(work));
     }
-    let mut words = HashSet::new(alloc);
-    for ticket in 0..work.files.len() as u64 {
-        slots = slots.saturating_add(add_words(&mut words, work.file(ticket))?);
-    }
-    Ok(slots)
+    Ok(slots.saturating_add(count_distinct_slots(alloc, work)?))
 }
 
 /// With so many slots the work is begun where none are asked for. Records of earlier rounds keep their slots, so with

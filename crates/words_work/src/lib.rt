@@ -3,7 +3,7 @@
 //! `words_work` reads the files in order, cuts them into pieces, and counts these on a domain that is sized by them.
 //! The rule that it keeps: the bytes that it answers are the text of the files' contents, whatever the lanes do; and
 //! each refusal but that of no memory comes only where its cause is there. `count_contents` does the same with
-//! contents that were had in another way, and `read_file` and `read_files` only read.
+//! contents that were had in another way.
 //!
 //! It isn't promised that a call returns, since lanes may retry and a gate may wait, nor when memory is enough.
 //!
@@ -14,19 +14,16 @@
 #![tactic(auto)]
 
 mod beginning;
-mod cutting;
 mod outcome;
-mod plan;
-mod reading;
 mod working;
 
+pub use file_work::{
+    FileFault, Files, Form, MOST_BYTES, PiecesError, Plan, Protect, Refused, WordsArgs, read_file,
+    read_files,
+};
 pub use lane_reports::{
-    Deleter, FileFault, Files, Form, Gate, HonestFiles, HonestSink, HostFiles, HostSink, Meet,
-    MemFiles, MemSink, NodeKind, Open, PairKind, PayloadKind, PiecesError, RecordKind, Sink,
-    SinkFault, WordsLaw, pieces,
+    Deleter, Gate, HonestFiles, HonestSink, HostFiles, HostSink, Meet, MemFiles, MemSink, NodeKind,
+    Open, PairKind, PayloadKind, RecordKind, Sink, SinkFault, WordsLaw, pieces,
 };
 pub use outcome::{WordsDone, WordsRefused};
-pub use plan::Plan;
-pub use reading::{MOST_BYTES, read_file, read_files};
-pub use run_requests::WordsArgs;
 pub use working::{count_contents, words_work};

@@ -1,9 +1,6 @@
 //! What was counted, and why nothing was.
-ghost use Rattle.std.specs.Prelude.{◌≡◌};
-ghost use Rattle.words_work.specs.declared.outcome.WordsRefused.TheVariants as refused;
-
-use lane_reports::{OutOfMemory as NoMemory, Seat, Tally, WordsLaw};
-use std::alloc::AllocError;
+use file_work::Refused;
+use lane_reports::{Seat, Tally, WordsLaw};
 
 /// What was counted.
 #[derive(Drop)]
@@ -16,32 +13,5 @@ pub struct WordsDone {
     pub tallies: Vec<Tally>,
 }
 
-/// Why nothing was counted.
-#[derive(Drop)]
-pub enum WordsRefused {
-    /// The source failed.
-    Read,
-    /// A limit is passed.
-    TooLarge,
-    /// This seat found each slot taken.
-    Full(Seat<WordsLaw>),
-    /// This seat had no add left.
-    Spent(Seat<WordsLaw>),
-    OutOfMemory,
-}
-
-impl From<NoMemory> for WordsRefused {
-    ghost from_gives = { λ _ error. error ≡ refused.OutOfMemory };
-
-    fn from(_error: NoMemory) -> WordsRefused {
-        WordsRefused::OutOfMemory
-    }
-}
-
-impl From<AllocError> for WordsRefused {
-    ghost from_gives = { λ _ error. error ≡ refused.OutOfMemory };
-
-    fn from(_error: AllocError) -> WordsRefused {
-        WordsRefused::OutOfMemory
-    }
-}
+/// Why nothing was counted. The seat is one of the domain on which the words were to be counted.
+pub type WordsRefused = Refused<Seat<WordsLaw>>;

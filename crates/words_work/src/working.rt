@@ -1,67 +1,20 @@
 //! How contents are counted, and how files are.
-ghost use Rattle.std.specs.Prelude.{◌≡◌, ◌≤◌, ◌<◌, ℕ, List, IfErr, IfOk, OnOk, length};
+ghost use Rattle.std.specs.Prelude.{◌≡◌, ◌≤◌, ℕ, List, IfErr, IfOk, length};
 ghost use Rattle.lane_reports.specs.deleter.Weighing.{Weighs};
-ghost use Rattle.lane_reports.specs.lane_gate.Causes.{Stood};
-ghost use Rattle.lane_reports.specs.lane_files.Work.{IsWork};
-ghost use Rattle.lane_reports.specs.lane_domain.Sizes as domain;
-ghost use Rattle.words_work.specs.Contents.{AreTold, bytes_in};
-ghost use Rattle.words_work.specs.Cuts.{IsWhyUncutOf};
-ghost use Rattle.words_work.specs.Limits.{IsPlan, IsWithinLimits, PassesLimit, most_bytes, most_files, names_of, plan_of};
-ghost use Rattle.words_work.specs.Outcomes.{IsCounted, IsDone, IsDoneOrStopped, IsTooLargeOrNoMemory, IsWhyNotDone, IsWhyUncounted, IsWorkOn, bytes_of};
+ghost use Rattle.file_work.specs.Contents.{bytes_in, bytes_of};
+ghost use Rattle.file_work.specs.Limits.{IsPlan, most_bytes, most_files, names_of, plan_of};
+ghost use Rattle.file_work.specs.Outcomes.{Answers, IsWhyUncounted};
+ghost use Rattle.words_work.specs.Outcomes.{IsCounted, IsFull, IsSpentOn};
 
 use crate::beginning::count_work;
-use crate::cutting::cut_files;
 use crate::outcome::{WordsDone, WordsRefused};
-use crate::plan::Plan;
-use crate::reading::read_files;
+use file_work::{Files, Plan, WordsArgs, plan_of, read_named, work_on};
 use lane_reports::{
-    CountError, Counted, Deleter, Files, Form, Gate, NodeKind, PairKind, PayloadKind, RecordKind,
-    Work, is_within_limits,
+    CountError, Counted, Deleter, Gate, NodeKind, PairKind, PayloadKind, RecordKind,
 };
-use run_requests::WordsArgs;
 use std::alloc::Global;
 use std::sync::Wait;
 use std::thread::Threads;
-
-/// The most files of one run.
-const MOST_FILES: usize = 4096;
-
-/// The plan that the words of a command line tell.
-fn plan_of(args: &WordsArgs) -> Plan
-    ensures { result ≡ plan_of args.now }
-{
-    Plan {
-        lanes: args.lanes,
-        rounds: args.rounds,
-        slots: args.slots,
-        first: None,
-        form: if args.double {
-            Form::Double
-        } else {
-            Form::Linked
-        },
-    }
-}
-
-/// The work on these contents, if one domain serves it.
-fn work_on(alloc: Global, rounds: u64, contents: Vec<Vec<u8>>) -> Result<Work, WordsRefused>
-    requires rounds { (1 ≤ rounds) × (rounds ≤ 1000) }
-    requires some { 1 ≤ length contents.items }
-    requires few { length contents.items ≤ most_files }
-    requires bytes { bytes_in (bytes_of contents.items) ≤ most_bytes }
-    ensures work { IfOk result IsWork }
-    ensures on { IfOk result (IsWorkOn rounds (bytes_of contents.items)) }
-    ensures domain { IfOk result domain.IsWithinLimits }
-    ensures within { OnOk result (IsWithinLimits rounds (bytes_of contents.items)) }
-    ensures why { IfErr result (IsWhyUncutOf rounds (bytes_of contents.items)) }
-{
-    let files = cut_files(alloc, contents)?;
-    let work = Work { files, rounds };
-    if !is_within_limits(&work) {
-        return Err(WordsRefused::TooLarge);
-    }
-    Ok(work)
-}
 
 /// Counts the words of 1 to 4,096 contents of at most 67,108,864 bytes together, as the plan says.
 ///
@@ -86,7 +39,8 @@ pub fn count_contents<R: Threads + Wait + Sync, G: Gate + Sync, D: Fn(&[u64; 16]
         ⟦<PairKind<NodeKind, RecordKind> as PayloadKind>⟧.weight D.Fn weigh.now }
     ensures done { IfOk result (IsCounted plan (bytes_of contents.items)) }
     ensures why { IfErr result (IsWhyUncounted
-        ⟦<PairKind<NodeKind, RecordKind> as PayloadKind>⟧.fits plan (bytes_of contents.items)) }
+        (IsFull ⟦<PairKind<NodeKind, RecordKind> as PayloadKind>⟧.fits) IsSpentOn plan
+        (bytes_of contents.items)) }
 {
     let work = work_on(alloc, plan.rounds, contents)?;
     match count_work(rt, alloc, plan, &work, gate, weigh) {
@@ -132,33 +86,18 @@ pub fn words_work<
     requires some { 1 ≤ length (names_of args.now) }
     requires weighs { Weighs ⟦<PairKind<NodeKind, RecordKind> as PayloadKind>⟧.fits
         ⟦<PairKind<NodeKind, RecordKind> as PayloadKind>⟧.weight D.Fn weigh.now }
-    ensures done { IfOk result
-        (IsDone (F.told files.old) (names_of args.now) (plan_of args.now)) }
-    ensures why { IfErr result (IsWhyNotDone ⟦<PairKind<NodeKind, RecordKind> as PayloadKind>⟧.fits
+    ensures answers { Answers IsCounted
+        (IsFull ⟦<PairKind<NodeKind, RecordKind> as PayloadKind>⟧.fits) IsSpentOn
         (F.told files.old) (names_of args.now) (plan_of args.now) (record {
           faults = F.faults files.old;
           faults_now = F.faults files.new;
           overlong = F.overlong files.old;
           overlong_now = F.overlong files.new;
-        })) }
-    ensures many { most_files < length (names_of args.now)
-        → result ≡ Err WordsRefused.TooLarge }
-    ensures unread { most_files < length (names_of args.now) → files.new ≡ files.old }
-    ensures refuses { (contents : List (List ℕ)) →
-        AreTold (F.told files.old) (names_of args.now) contents →
-        PassesLimit args.now.rounds contents →
-        Stood (F.faults files.old) (F.faults files.new) → IsTooLargeOrNoMemory result }
-    ensures accepts { (contents : List (List ℕ)) →
-        AreTold (F.told files.old) (names_of args.now) contents →
-        IsWithinLimits args.now.rounds contents →
-        Stood (F.faults files.old) (F.faults files.new) → IsDoneOrStopped result }
+        }) (files.new ≡ files.old) result }
     ensures tells { (other : List ℕ) → F.told files.new other ≡ F.told files.old other }
     ensures faults_last { F.faults files.old ≤ F.faults files.new }
     ensures overlong_last { F.overlong files.old ≤ F.overlong files.new }
 {
-    if MOST_FILES < args.names.len() {
-        return Err(WordsRefused::TooLarge);
-    }
-    let contents = read_files(alloc, files, &args.names)?;
+    let contents = read_named(alloc, files, &args.names)?;
     count_contents(rt, alloc, plan_of(args), contents, gate, weigh)
 }

@@ -7,9 +7,9 @@ use Rattle.lane_reports.specs.queue_protocol.Nodes.{IsNodePayload}
 use Rattle.lane_reports.specs.directory_law.Bytes.{IsPiece}
 use Rattle.lane_reports.specs.declared.counted.CountError.{CountError}
 use Rattle.words_work.specs.Beginnings.{IsWhyStopped}
-use Rattle.words_work.specs.Limits.{AreSlots}
-use Rattle.words_work.specs.Outcomes.{bytes_of}
-use Rattle.words_work.proofs.Serving.{most_is}
+use Rattle.file_work.specs.Contents.{bytes_of}
+use Rattle.file_work.specs.Limits.{AreSlots}
+use Rattle.file_work.proofs.Sizes.{most_is}
 use Rattle.words_work.proofs.working.count_contents.Goals as goal
 
 pub returns-in-Ok-clause-done : goal.returns-in-Ok-clause-done

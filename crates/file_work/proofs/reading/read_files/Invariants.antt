@@ -1,8 +1,8 @@
 use Rattle.std.proofs.Common.{◌≡◌, ◌≤◌, ◌+◌, ◌-◌, ℕ, List, length, map, string_bytes, take, vec_capacity, vec_len}
-use Rattle.words_work.specs.Contents.{AreContents, bytes_in}
-use Rattle.words_work.specs.Limits.{most_bytes}
-use Rattle.words_work.specs.Outcomes.{bytes_of}
-use Rattle.words_work.proofs.reading.read_files.Given as goal
+use Rattle.file_work.specs.Contents.{AreContents, bytes_in}
+use Rattle.file_work.specs.Limits.{most_bytes}
+use Rattle.file_work.specs.Contents.{bytes_of}
+use Rattle.file_work.proofs.reading.read_files.Given as goal
 
 -- the first contents are read, and what they have is no longer left
 abbrev pub invariant-loop-name : goal.invariant-loop-name

@@ -1,8 +1,20 @@
 -- The contents of named files, by what their source tells.
-use Rattle.std.specs.Prelude.{ℕ, ◌≡◌, ◌+◌, ◌<◌, List, [], ◌∷◌, ◌++◌, length, Some, IfSome}
+use Rattle.std.specs.Prelude.{ℕ, ◌≡◌, ◌+◌, ◌<◌, List, [], ◌∷◌, ◌++◌, length, map, Some, IfSome}
+use Rattle.std.specs.Global.{Vec}
 use Rattle.std.specs.List.{sum_by}
 use Rattle.std.specs.declared.option.Option.{Option}
-use Rattle.lane_reports.specs.lane_gate.Causes.{Rose}
+use Rattle.lane_gate.specs.Causes.{Rose}
+
+-- the contents of some texts
+abbrev pub bytes_of : List (Vec ℕ) → List (List ℕ)
+bytes_of texts = map (λ (text : Vec ℕ). text.items) texts
+
+-- a source's counts of faults and of files that were found too long, before a call and after it
+pub record Counts : Type 0 where
+  pub faults : ℕ
+  pub faults_now : ℕ
+  pub overlong : ℕ
+  pub overlong_now : ℕ
 
 -- the content of each name, where a source tells it
 abbrev pub Told : Type 0

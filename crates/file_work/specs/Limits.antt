@@ -2,15 +2,16 @@
 use Rattle.std.specs.Prelude.{ℕ, ◌≡◌, ◌+◌, ◌*◌, ◌<◌, ◌≤◌, ◌⊎◌, Bool, true, false, List, Some, None, length, map, string_bytes, IfSome}
 use Rattle.std.specs.declared.option.Option.{Option}
 use Rattle.std.specs.List.{sum_by}
-use Rattle.lane_reports.specs.plain_state.Limits.{most_slots}
+use Rattle.lane_work.specs.plain_state.Limits.{most_slots}
 use Rattle.run_requests.specs.declared.asked.WordsArgs.{WordsArgs}
-use Rattle.lane_reports.specs.queue_law.declared.view.Form.{Form}
-use Rattle.lane_reports.specs.queue_law.declared.view.Form.TheVariants.{Linked, Double}
-use Rattle.lane_reports.specs.cdrc_text.Fold.{File}
-use Rattle.lane_reports.specs.cdrc_text.Pieces.{pieces_of}
-use Rattle.lane_reports.specs.lane_domain.Sizes.{most_lanes, slots_of_words}
-use Rattle.words_work.specs.Contents.{bytes_in}
-use Rattle.words_work.specs.declared.plan.Plan.{Plan}
+use Rattle.queue_law.specs.declared.view.Form.{Form}
+use Rattle.queue_law.specs.declared.view.Form.TheVariants.{Linked, Double}
+use Rattle.lane_work.specs.cdrc_text.Fold.{File}
+use Rattle.lane_work.specs.cdrc_text.Pieces.{pieces_of}
+use Rattle.lane_work.specs.Sizes.{most_lanes, slots_of_words, texts_in}
+use Rattle.lane_work.specs.declared.work.Work.{Work}
+use Rattle.file_work.specs.Contents.{bytes_in}
+use Rattle.file_work.specs.declared.plan.Plan.{Plan}
 
 abbrev pub form_of : Bool → Form
 form_of false = Linked
@@ -52,6 +53,15 @@ parts_in_all files = sum_by slots_of_words files
 -- so many slots serve, whatever the lanes do: one for each object that is made, and two
 abbrev pub slots_needed : ℕ → List File → ℕ
 slots_needed rounds files = rounds * (pieces_in_all files + parts_in_all files) + 2
+
+-- so many serve the work
+abbrev pub most_of : Work → ℕ
+most_of work = slots_needed work.rounds (texts_in work)
+
+-- the work is to count these contents
+pub record IsWorkOn (rounds : ℕ) (contents : List (List ℕ)) (work : Work) : Type 0 where
+  pub often : work.rounds ≡ rounds
+  pub texts : texts_in work ≡ map pieces_of contents
 
 -- so many slots are opened: those that are asked for; or where none are at most so many
 abbrev pub AreSlots : Option ℕ → ℕ → ℕ → Type 0

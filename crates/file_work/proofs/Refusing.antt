@@ -1,10 +1,10 @@
 -- Contents that are told decide whether a limit is passed.
 use Rattle.std.proofs.Common.{ℕ, ◌+◌, ◌<◌, ◌≤◌, inl, inr, List, length, IfSome, subst, arith}
-use Rattle.lane_reports.specs.lane_gate.Causes.{Rose, Stood}
-use Rattle.words_work.specs.Contents.{AreTold, IsTooLong, Told, bytes_in}
-use Rattle.words_work.specs.Limits.{HasTooMany, IsWithinLimits, PassesLimit, most_bytes}
-use Rattle.words_work.specs.Outcomes.{IsTooLarge}
-use Rattle.words_work.proofs.Told.{told_many, told_same, told_within}
+use Rattle.lane_gate.specs.Causes.{Rose, Stood}
+use Rattle.file_work.specs.Contents.{AreTold, IsTooLong, Told, bytes_in}
+use Rattle.file_work.specs.Limits.{HasTooMany, IsWithinLimits, PassesLimit, most_bytes}
+use Rattle.file_work.specs.Outcomes.{IsTooLarge}
+use Rattle.file_work.proofs.Told.{told_many, told_same, told_within}
 
 pub rose_stood : (before now : ℕ) → Rose before now → Stood before now → ⊥
 rose_stood before now rose stood = omega arith

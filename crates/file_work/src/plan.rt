@@ -1,5 +1,9 @@
 //! How contents are counted.
-use lane_reports::Form;
+ghost use Rattle.std.specs.Prelude.{◌≡◌};
+ghost use Rattle.file_work.specs.Limits.{plan_of};
+
+use queue_law::Form;
+use run_requests::WordsArgs;
 
 /// How the words of some contents are to be counted.
 #[derive(Clone, Copy, Drop)]
@@ -14,6 +18,23 @@ pub struct Plan {
     /// With how many slots a count begins where none are asked for, raised to 1 and lowered to as many as always serve;
     /// with a guess by the words where this is none.
     pub first: Option<u32>,
-    /// The queue's.
+    /// The queue's, where lanes use one.
     pub form: Form,
+}
+
+/// The plan that the words of a command line tell.
+pub fn plan_of(args: &WordsArgs) -> Plan
+    ensures { result ≡ plan_of args.now }
+{
+    Plan {
+        lanes: args.lanes,
+        rounds: args.rounds,
+        slots: args.slots,
+        first: None,
+        form: if args.double {
+            Form::Double
+        } else {
+            Form::Linked
+        },
+    }
 }

@@ -3,12 +3,11 @@ use Rattle.std.proofs.Common.{◌≡◌, ℕ, suc, ◌+◌, ◌<◌, ◌≤◌, 
 use Rattle.std.proofs.Math.Seq.{split_at}
 use Rattle.std.proofs.lemmas.List.{map-append, take_more}
 use Rattle.std.specs.declared.option.Option.{Option}
-use Rattle.words_work.specs.Contents.{AreContents, Told, bytes_in}
-use Rattle.words_work.specs.Limits.{most_bytes}
-use Rattle.words_work.specs.Outcomes.{IsWhyUnread}
-use Rattle.words_work.specs.Reads.{IsWhyOneUnread}
-use Rattle.words_work.specs.declared.outcome.WordsRefused.{WordsRefused}
-use Rattle.words_work.specs.declared.outcome.WordsRefused.TheVariants as refused
+use Rattle.file_work.specs.Contents.{AreContents, Told, bytes_in}
+use Rattle.file_work.specs.Limits.{most_bytes}
+use Rattle.file_work.specs.Reads.{IsWhyOneUnread, IsWhyUnread}
+use Rattle.file_work.specs.declared.refused.Refused.{Refused}
+use Rattle.file_work.specs.declared.refused.Refused.TheVariants as refused
 
 pub named_at : (names : List (String Global)) (k : ℕ) (name : String Global) → k < length names
     → name ≡ get_or names k name
@@ -36,8 +35,8 @@ longer None left bytes most size long = tt
 longer (Some content) left bytes most size long = omega arith
 
 -- why one file isn't read is why the files aren't
-pub unread : (told : Told) (names front back : List (List ℕ)) (name : List ℕ) (contents : List (List ℕ))
-    (left faults0 faults1 faults2 overlong0 overlong1 overlong2 : ℕ) (one : Option (List ℕ)) (error : WordsRefused)
+pub unread : {S : Type 0} (told : Told) (names front back : List (List ℕ)) (name : List ℕ) (contents : List (List ℕ))
+    (left faults0 faults1 faults2 overlong0 overlong1 overlong2 : ℕ) (one : Option (List ℕ)) (error : Refused S)
     → names ≡ front ++ name ∷ back → AreContents told front contents → left + bytes_in contents ≡ most_bytes
     → one ≡ told name → faults0 ≤ faults1 → overlong0 ≤ overlong1
     → IsWhyOneUnread one left

@@ -2,11 +2,11 @@ use Rattle.std.proofs.Common.{◌≡◌, ◌+◌, ◌++◌, ◌∷◌, [], List,
 use Rattle.std.specs.declared.option.Option.{Option}
 use Rattle.std.proofs.lemmas.List.{map-append}
 use Rattle.std.proofs.lemmas.Result.{err_from_is_err_and}
-use Rattle.words_work.specs.Contents.{AreContents, IsContent, bytes_in}
-use Rattle.words_work.specs.Outcomes.{bytes_of}
-use Rattle.words_work.proofs.Named.{named_at, named_next, unread}
-use Rattle.words_work.proofs.Told.{bytes_push, contents_push}
-use Rattle.words_work.proofs.reading.read_files.Goals as goal
+use Rattle.file_work.specs.Contents.{AreContents, IsContent, bytes_in}
+use Rattle.file_work.specs.Contents.{bytes_of}
+use Rattle.file_work.proofs.Named.{named_at, named_next, unread}
+use Rattle.file_work.proofs.Told.{bytes_push, contents_push}
+use Rattle.file_work.proofs.reading.read_files.Goals as goal
 
 pub returns-in_err-content-clause-why : goal.returns-in_err-content-clause-why
 returns-in_err-content-clause-why g c =

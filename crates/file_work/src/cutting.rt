@@ -1,20 +1,20 @@
 //! How contents are cut into pieces.
 ghost use Rattle.std.specs.Prelude.{◌≡◌, ◌≤◌, ◌<◌, ◌*◌, ◌+◌, All, IfErr, IfOk, IfSome, length, map};
-ghost use Rattle.lane_reports.specs.cdrc_text.Pieces.{pieces_of};
-ghost use Rattle.lane_reports.specs.lane_files.FilePieces.{HasPieces, pieces_in};
-ghost use Rattle.words_work.specs.Cuts.{IsWhyUncut};
-ghost use Rattle.words_work.specs.Limits.{most_pieces, pieces_in_all};
-ghost use Rattle.words_work.specs.Outcomes.{bytes_of};
+ghost use Rattle.lane_work.specs.cdrc_text.Pieces.{pieces_of};
+ghost use Rattle.lane_work.specs.FilePieces.{HasPieces, pieces_in};
+ghost use Rattle.file_work.specs.Cuts.{IsWhyUncut};
+ghost use Rattle.file_work.specs.Limits.{most_pieces, pieces_in_all};
+ghost use Rattle.file_work.specs.Contents.{bytes_of};
 
-use crate::outcome::WordsRefused;
-use lane_reports::{FileText, PiecesError};
+use crate::refused::Refused;
+use lane_work::{FileText, PiecesError};
 use std::alloc::Global;
 
 /// The most pieces of all files together.
 const MOST_PIECES: u64 = 1_000_000;
 
 /// A content of at most so many pieces, cut.
-fn cut_file(alloc: Global, content: Vec<u8>, limit: u64) -> Result<FileText, WordsRefused>
+fn cut_file<S>(alloc: Global, content: Vec<u8>, limit: u64) -> Result<FileText, Refused<S>>
     ensures words { IfOk result (λ file. pieces_in file ≡ pieces_of content.items) }
     ensures lies { IfOk result HasPieces }
     ensures within { IfOk result (λ file. length (pieces_in file) ≤ limit) }
@@ -22,16 +22,16 @@ fn cut_file(alloc: Global, content: Vec<u8>, limit: u64) -> Result<FileText, Wor
 {
     match FileText::cut(alloc, content, limit) {
         Ok(file) => Ok(file),
-        Err(PiecesError::TooMany(_)) => Err(WordsRefused::TooLarge),
-        Err(PiecesError::OutOfMemory) => Err(WordsRefused::OutOfMemory),
+        Err(PiecesError::TooMany(_)) => Err(Refused::TooLarge),
+        Err(PiecesError::OutOfMemory) => Err(Refused::OutOfMemory),
     }
 }
 
 /// The contents, cut, if they have at most 1,000,000 pieces together. Linear in the bytes.
-pub(crate) fn cut_files(
+pub(crate) fn cut_files<S>(
     alloc: Global,
     contents: Vec<Vec<u8>>,
-) -> Result<Vec<FileText>, WordsRefused>
+) -> Result<Vec<FileText>, Refused<S>>
     ensures words { IfOk result (λ files.
         map pieces_in files.items ≡ map pieces_of (bytes_of contents.items)) }
     ensures lies { IfOk result (λ files. All HasPieces files.items) }

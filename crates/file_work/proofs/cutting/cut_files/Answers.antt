@@ -1,15 +1,15 @@
 use Rattle.std.proofs.Common.{◌≡◌, ◌++◌, ◌∷◌, [], All, List, ℕ, Global, Vec, length, map, sym, ap, subst, ◌∙◌, append_assoc, arith}
 use Rattle.std.proofs.lemmas.List.{length-map, map-append}
 use Rattle.std.proofs.lemmas.List.Elements.{All-push}
-use Rattle.lane_reports.specs.cdrc_text.Pieces.{bytes_at, pieces_of}
-use Rattle.lane_reports.specs.lane_files.FilePieces.{HasPieces, pieces_in}
-use Rattle.words_work.specs.Limits.{pieces_in_all}
-use Rattle.words_work.specs.Outcomes.{bytes_of}
-use Rattle.words_work.proofs.Sizes.{pieces_push}
-use Rattle.words_work.proofs.cutting.cut_files.Goals as goal
+use Rattle.lane_work.specs.cdrc_text.Pieces.{bytes_at, pieces_of}
+use Rattle.lane_work.specs.FilePieces.{HasPieces, pieces_in}
+use Rattle.file_work.specs.Limits.{pieces_in_all}
+use Rattle.file_work.specs.Contents.{bytes_of}
+use Rattle.file_work.proofs.Sizes.{pieces_push}
+use Rattle.file_work.proofs.cutting.cut_files.Goals as goal
 
 pub loop-content-preserved : goal.loop-content-preserved
-loop-content-preserved c =
+loop-content-preserved g c =
     let inv = c.loop-content.invariant in let steps = c.in-Some.ensures.steps.0 in
     let file = c.in_ok-file.file in let content = c.in-Some.content in
     let before = c.loop-content.files.items in let yielded = c.loop-content.yielded in

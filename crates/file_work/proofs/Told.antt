@@ -2,7 +2,7 @@
 use Rattle.std.proofs.Common.{◌≡◌, ℕ, ◌+◌, ◌≤◌, List, [], ◌∷◌, ◌++◌, length, Some, refl, ap, subst, arith}
 use Rattle.std.specs.declared.option.Option.{Option}
 use Rattle.std.proofs.lemmas.List.Sums.{sum_by-append, sum_by-cons}
-use Rattle.words_work.specs.Contents.{AreContents, AreTold, IsContent, Told, bytes_in}
+use Rattle.file_work.specs.Contents.{AreContents, AreTold, IsContent, Told, bytes_in}
 
 pub contents_push : (told : Told) (names contents : List (List ℕ)) (name content : List ℕ)
     → AreContents told names contents → IsContent (told name) content
