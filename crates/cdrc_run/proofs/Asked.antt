@@ -57,7 +57,7 @@ ranges line (request.Bulk drawn) asks = (
 same_job : (a b : Request) → IsSame a b → job_of a ≡ job_of b
 same_job (request.Words a) (request.Words b) same =
     let names = same.0 in let lanes = same.1 in let rounds = same.2 in
-    let slots = same.3 in let double = same.4 in cc
+    let slots = same.3 in let double = same.4 in let protect = same.5 in cc
 same_job (request.Script a) (request.Script b) same = ap script same
 same_job (request.Steps a) (request.Steps b) same = ap steps same
 same_job (request.Generate a) (request.Generate b) same = ap draw same

@@ -1,7 +1,7 @@
 -- The ends of runs that offered an output to their sink.
 use Rattle.std.proofs.Common.{◌≡◌, ℕ, ◌⊎◌, inl, inr, Bool, true, false, List, refl, sym, subst, arith}
 use Rattle.words_work.specs.lane_gate.Causes.{Rose}
-use Rattle.words_work.proofs.Refusing.{rose_stood}
+use Rattle.words_work.proofs.Below.file_work_Refusing.{rose_stood}
 use Rattle.cdrc_run.specs.Ends.{Ends, IsWritingEnd, SinkRun, SourceRun, TookAll, TookPart, kept_evidence}
 use Rattle.cdrc_run.specs.Jobs.{Job}
 use Rattle.cdrc_run.specs.Outputs.{IsOutputOf}

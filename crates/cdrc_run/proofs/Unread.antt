@@ -1,17 +1,16 @@
 -- The ends of runs that have no output.
 use Rattle.std.proofs.Common.{◌≡◌, ℕ, ◌⊎◌, inl, inr, List, Err, subst, arith}
 use Rattle.std.specs.declared.result.Result.{Result}
-use Rattle.cdrc_scripts.specs.acquire_retire.Seats.{SeatState}
-use Rattle.words_work.specs.words_law.Views.{View}
 use Rattle.words_work.specs.lane_gate.Causes.{Rose}
-use Rattle.words_work.specs.declared.outcome.WordsRefused.{WordsRefused}
-use Rattle.words_work.specs.declared.outcome.WordsRefused.TheVariants as refused
-use Rattle.words_work.proofs.Refusing.{rose_stood}
+use Rattle.words_work.specs.file_work.declared.refused.Refused.{Refused}
+use Rattle.words_work.specs.file_work.declared.refused.Refused.TheVariants as refused
+use Rattle.words_work.proofs.Below.file_work_Refusing.{rose_stood}
 use Rattle.cdrc_run.specs.Ends.{Ends, IsRefusedEnd, ShowsSeat, SinkRun, SourceRun, TookNothing}
 use Rattle.cdrc_run.specs.Jobs.{Job}
 use Rattle.cdrc_run.specs.Outputs.{IsFull, IsSpentFor, IsTooLarge, IsWhyNoOutput}
 use Rattle.cdrc_run.specs.Statuses.{IsStatus}
 use Rattle.cdrc_run.specs.declared.outcome.End.{End}
+use Rattle.cdrc_run.specs.declared.outcome.RefusedSeat.{RefusedSeat}
 use Rattle.cdrc_run.specs.declared.outcome.Why.TheVariants as why
 use Rattle.cdrc_run.proofs.Told.{full_asks, told_full, told_not_too_large, told_spent}
 
@@ -69,7 +68,7 @@ module _ (fits : List ℕ → Type 0) (job : Job) (source : SourceRun) (sink : S
         source.counts.overlong_now tells within large);
   }
 
-  ends_full : (seat : SeatState View) → end.status ≡ 6 → ShowsSeat seat end.why
+  ends_full : (seat : RefusedSeat) → end.status ≡ 6 → ShowsSeat seat end.why
       → IsFull fits job source.told seat → Ends fits job source sink end
   ends_full seat six_is shown full = record {
     understood = λ e. omega arith;
@@ -90,7 +89,7 @@ module _ (fits : List ℕ → Type 0) (job : Job) (source : SourceRun) (sink : S
     complete = λ contents tells within stood still. inr (inl six_is);
   }
 
-  ends_spent : (seat : SeatState View) → end.status ≡ 7 → ShowsSeat seat end.why
+  ends_spent : (seat : RefusedSeat) → end.status ≡ 7 → ShowsSeat seat end.why
       → IsSpentFor job source.told seat → Ends fits job source sink end
   ends_spent seat seven_is shown spent = record {
     understood = λ e. omega arith;
@@ -131,7 +130,7 @@ module _ (fits : List ℕ → Type 0) (job : Job) (source : SourceRun) (sink : S
   }
 
   -- the run has no output, for this reason
-  pub ends_without : (error : WordsRefused)
+  pub ends_without : (error : Refused RefusedSeat)
       → IsWhyNoOutput fits job source.told source.counts error → IsRefusedEnd error end
       → Ends fits job source sink end
   ends_without refused.Read why ends = ends_unread ends.0 ends.1 why
@@ -140,7 +139,7 @@ module _ (fits : List ℕ → Type 0) (job : Job) (source : SourceRun) (sink : S
   ends_without (refused.Spent seat) why ends = ends_spent seat ends.0 ends.1 why
   ends_without refused.OutOfMemory why ends = ends_without_memory ends.0 ends.1
 
-pub status_refused : (error : WordsRefused) (end : End) → IsRefusedEnd error end
+pub status_refused : (error : Refused RefusedSeat) (end : End) → IsRefusedEnd error end
     → IsStatus end.status
 status_refused refused.Read end ends = inr (inr (inl ends.0))
 status_refused refused.TooLarge end ends = inr (inr (inr (inr (inl ends.0))))
@@ -149,8 +148,8 @@ status_refused (refused.Spent seat) end ends = inr (inr (inr (inr (inr (inr (inl
 status_refused refused.OutOfMemory end ends = inr (inr (inr (inr (inr (inr (inr (inr ends.0)))))))
 
 -- what is too large ends with 5
-pub five_where_large : {T : Type 0} (r : Result T WordsRefused) (error : WordsRefused) (end : End)
+pub five_where_large : {T : Type 0} (r : Result T (Refused RefusedSeat)) (error : Refused RefusedSeat) (end : End)
     → r ≡ Err error → r ≡ Err refused.TooLarge → IsRefusedEnd error end → end.status ≡ 5
 five_where_large r error end was large ends =
     let is : error ≡ refused.TooLarge = cc in
-    (subst (λ (e : WordsRefused). IsRefusedEnd e end) is ends).0
+    (subst (λ (e : Refused RefusedSeat). IsRefusedEnd e end) is ends).0

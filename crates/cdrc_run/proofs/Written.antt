@@ -3,25 +3,34 @@ use Rattle.std.proofs.Common.{ℕ, ◌+◌, ◌<◌, ◌≤◌, Bool, false, Lis
 use Rattle.std.specs.declared.result.Result.{Result}
 use Rattle.std.specs.declared.option.Option.{Option}
 use Rattle.std.proofs.lemmas.List.Sums.{sum_by-cons}
+use Rattle.cdrc_scripts.specs.acquire_retire.Seats.{SeatState}
+use Rattle.words_work.specs.words_law.Views.{View}
+use Rattle.epoch_work.specs.cell_reports.cell_lanes.cell_calls.cell_law.declared.view.View.{View as CellView}
+use Rattle.epoch_work.specs.cell_reports.epoch_refs.epoch_domain.Seats.{SeatState as EpochSeat}
 use Rattle.cdrc_steps.specs.Meaning.{IsSteps}
 use Rattle.command_line.specs.run_requests.declared.asked.Bulk.{Bulk}
 use Rattle.words_work.specs.lane_gate.Causes.{Rose}
-use Rattle.words_work.specs.Contents.{IsContent, IsTooLong, Told, bytes_in}
+use Rattle.words_work.specs.Contents.{Counts, IsContent, IsTooLong, Told, bytes_in}
 use Rattle.words_work.specs.Limits.{most_bytes}
-use Rattle.words_work.specs.Outcomes.{Counts, IsDone, IsWhyNotDone}
-use Rattle.words_work.specs.Reads.{IsWhyOneUnread}
+use Rattle.words_work.specs.Outcomes as words
+use Rattle.words_work.specs.file_work.Outcomes.{IsDone, IsWhyNotDone}
+use Rattle.words_work.specs.file_work.Reads.{IsWhyOneUnread}
+use Rattle.epoch_work.specs.Outcomes as epoch
+use Rattle.epoch_work.specs.declared.outcome.EpochDone.{EpochDone}
 use Rattle.words_work.specs.declared.outcome.WordsDone.{WordsDone}
-use Rattle.words_work.specs.declared.outcome.WordsRefused.{WordsRefused}
-use Rattle.words_work.specs.declared.outcome.WordsRefused.TheVariants as refused
-use Rattle.words_work.specs.declared.plan.Plan.{Plan}
-use Rattle.cdrc_run.specs.Jobs.{bulk, count, script, steps}
+use Rattle.words_work.specs.file_work.declared.refused.Refused.{Refused}
+use Rattle.words_work.specs.file_work.declared.refused.Refused.TheVariants as refused
+use Rattle.words_work.specs.file_work.declared.plan.Plan.{Plan}
+use Rattle.cdrc_run.specs.Jobs.{bulk, count, regions, script, steps}
+use Rattle.cdrc_run.specs.Refusals.{of_epoch, of_words}
 use Rattle.cdrc_run.specs.Outputs.{IsOutput, IsOutputOf, IsShownScript, IsWhyNoOutput}
 use Rattle.cdrc_run.specs.declared.outcome.Output.{Output}
 use Rattle.cdrc_run.specs.declared.outcome.Why.{Why}
+use Rattle.cdrc_run.specs.declared.outcome.RefusedSeat.{RefusedSeat}
 use Rattle.cdrc_run.specs.declared.outcome.Why.TheVariants as why
 
 pub count_output : (told : Told) (names : List (List ℕ)) (plan : Plan) (done : WordsDone)
-    → IsDone told names plan done
+    → IsDone words.IsCounted told names plan done
     → IsOutputOf (count names plan) told done.bytes.items false (why.Words done.root done.tallies)
 count_output told names plan done is = record {
   contents = is.contents;
@@ -30,14 +39,55 @@ count_output told names plan done is = record {
   is_output = (record { done = done; is = refl; counted = is.counted; shows = refl }, refl);
 }
 
+pub regions_output : (told : Told) (names : List (List ℕ)) (plan : Plan) (done : EpochDone)
+    → IsDone epoch.IsCounted told names plan done
+    → IsOutputOf (regions names plan) told done.bytes.items false (why.Epoch done.root)
+regions_output told names plan done is = record {
+  contents = is.contents;
+  are = is.are;
+  within = is.counted.within;
+  is_output = (record { done = done; is = refl; counted = is.counted; shows = refl }, refl);
+}
+
 pub count_why : (fits : List ℕ → Type 0) (told : Told) (names : List (List ℕ)) (plan : Plan)
-    (counts : Counts) (error : WordsRefused) → IsWhyNotDone fits told names plan counts error
-    → IsWhyNoOutput fits (count names plan) told counts error
+    (counts : Counts) (error : Refused (SeatState View))
+    → IsWhyNotDone (words.IsFull fits) words.IsSpentOn told names plan counts error
+    → IsWhyNoOutput fits (count names plan) told counts (of_words error)
 count_why fits told names plan counts refused.Read why = why
 count_why fits told names plan counts refused.TooLarge why = why
-count_why fits told names plan counts (refused.Full seat) why = why
-count_why fits told names plan counts (refused.Spent seat) why = why
+count_why fits told names plan counts (refused.Full seat) why = record {
+  contents = why.contents;
+  are = why.are;
+  within = why.within;
+  so = why.so;
+}
+count_why fits told names plan counts (refused.Spent seat) why = record {
+  contents = why.contents;
+  are = why.are;
+  within = why.within;
+  so = why.so;
+}
 count_why fits told names plan counts refused.OutOfMemory why = why
+
+pub regions_why : (fits : List ℕ → Type 0) (told : Told) (names : List (List ℕ)) (plan : Plan)
+    (counts : Counts) (error : Refused (EpochSeat CellView))
+    → IsWhyNotDone epoch.IsFull epoch.IsSpentOn told names plan counts error
+    → IsWhyNoOutput fits (regions names plan) told counts (of_epoch error)
+regions_why fits told names plan counts refused.Read why = why
+regions_why fits told names plan counts refused.TooLarge why = why
+regions_why fits told names plan counts (refused.Full seat) why = record {
+  contents = why.contents;
+  are = why.are;
+  within = why.within;
+  so = why.so;
+}
+regions_why fits told names plan counts (refused.Spent seat) why = record {
+  contents = why.contents;
+  are = why.are;
+  within = why.within;
+  so = why.so;
+}
+regions_why fits told names plan counts refused.OutOfMemory why = why
 
 one_content : (content : List ℕ) → length content ≤ most_bytes → bytes_in (content ∷ []) ≤ most_bytes
 one_content content within =
@@ -83,7 +133,7 @@ too_long told file before now found long = record {
 }
 
 pub script_why : (fits : List ℕ → Type 0) (told : Told) (file : List ℕ) (counts : Counts)
-    (error : WordsRefused) → IsWhyOneUnread (told file) most_bytes counts error
+    (error : Refused RefusedSeat) → IsWhyOneUnread (told file) most_bytes counts error
     → IsWhyNoOutput fits (script file) told counts error
 script_why fits told file counts refused.Read why = why
 script_why fits told file counts refused.TooLarge why =
@@ -93,7 +143,7 @@ script_why fits told file counts (refused.Spent seat) why = absurd why
 script_why fits told file counts refused.OutOfMemory why = tt
 
 pub steps_why : (fits : List ℕ → Type 0) (told : Told) (file : List ℕ) (counts : Counts)
-    (error : WordsRefused) → IsWhyOneUnread (told file) most_bytes counts error
+    (error : Refused RefusedSeat) → IsWhyOneUnread (told file) most_bytes counts error
     → IsWhyNoOutput fits (steps file) told counts error
 steps_why fits told file counts refused.Read why = why
 steps_why fits told file counts refused.TooLarge why =
@@ -103,7 +153,7 @@ steps_why fits told file counts (refused.Spent seat) why = absurd why
 steps_why fits told file counts refused.OutOfMemory why = tt
 
 -- drawn texts are in no file
-pub drawn_output : (told : Told) (drawn : Bulk) (result : Result Output WordsRefused)
+pub drawn_output : (told : Told) (drawn : Bulk) (result : Result Output (Refused RefusedSeat))
     → IfOk result (λ output.
     IsOutput (bulk drawn) [] output.text.items output.refused output.why)
     → IfOk result (λ output.
@@ -117,7 +167,7 @@ drawn_output told drawn (Ok output) is = record {
 drawn_output told drawn (Err error) is = tt
 
 -- what follows of each refusal follows of the answer
-pub each_refusal : (result : Result Output WordsRefused) (P Q : WordsRefused → Type 0)
-    → ((error : WordsRefused) → P error → Q error) → IfErr result P → IfErr result Q
+pub each_refusal : (result : Result Output (Refused RefusedSeat)) (P Q : Refused RefusedSeat → Type 0)
+    → ((error : Refused RefusedSeat) → P error → Q error) → IfErr result P → IfErr result Q
 each_refusal (Ok output) P Q follows why = tt
 each_refusal (Err error) P Q follows why = follows error why

@@ -3,17 +3,16 @@ use Rattle.std.specs.Prelude.{ℕ, ◌≡◌, ◌≢◌, ◌<◌, ◌⊎◌, Boo
 use Rattle.std.specs.Global.{Vec}
 use Rattle.std.specs.Io.KnownBytes.{append_known}
 use Rattle.std.specs.declared.option.Option.{Option}
-use Rattle.cdrc_scripts.specs.acquire_retire.Seats.{SeatState}
-use Rattle.words_work.specs.words_law.Views.{View}
 use Rattle.words_work.specs.lane_gate.Causes.{Rose, Stood}
-use Rattle.words_work.specs.Contents.{AreTold, Told}
-use Rattle.words_work.specs.Outcomes.{Counts}
-use Rattle.words_work.specs.declared.outcome.WordsRefused.{WordsRefused}
-use Rattle.words_work.specs.declared.outcome.WordsRefused.TheVariants as refused
+use Rattle.words_work.specs.Contents.{AreTold, Counts, Told}
+use Rattle.words_work.specs.file_work.declared.refused.Refused.{Refused}
+use Rattle.words_work.specs.file_work.declared.refused.Refused.TheVariants as refused
 use Rattle.cdrc_run.specs.Jobs.{AsksSlots, Job, names_in, IsWithinLimits, PassesLimit}
 use Rattle.cdrc_run.specs.Outputs.{IsFull, IsOutputOf, IsSpentFor, IsTooLarge}
 use Rattle.cdrc_run.specs.declared.outcome.End.{End}
 use Rattle.cdrc_run.specs.declared.outcome.Output.{Output}
+use Rattle.cdrc_run.specs.declared.outcome.RefusedSeat.{RefusedSeat}
+use Rattle.cdrc_run.specs.declared.outcome.RefusedSeat.TheVariants as seat
 use Rattle.cdrc_run.specs.declared.outcome.Why.{Why}
 use Rattle.cdrc_run.specs.declared.outcome.Why.TheVariants as why
 
@@ -45,6 +44,7 @@ TookNothing sink = sink.now ≡ sink.before
 abbrev pub kept_evidence : Why → Why
 kept_evidence why.Nothing = why.Nothing
 kept_evidence (why.Words root tallies) = why.Words root tallies
+kept_evidence (why.Epoch root) = why.Epoch root
 kept_evidence (why.Script seat) = why.Nothing
 
 -- it took the whole output, of which this is the evidence
@@ -62,16 +62,17 @@ pub record TookPartOfOutput (job : Job) (told : Told) (left : Why) (sink : SinkR
   pub kept : left ≡ kept_evidence shown
 
 -- the evidence is this seat, without tallies
-abbrev pub ShowsSeat : SeatState View → Why → Type 0
-ShowsSeat seat shown =
-    (tallies : Vec (List (List ℕ × ℕ))) × (shown ≡ why.Words seat tallies) × (tallies.items ≡ [])
+abbrev pub ShowsSeat : RefusedSeat → Why → Type 0
+ShowsSeat (seat.Words s) shown =
+    (tallies : Vec (List (List ℕ × ℕ))) × (shown ≡ why.Words s tallies) × (tallies.items ≡ [])
+ShowsSeat (seat.Epoch s) shown = shown ≡ why.Epoch s
 
 -- the end of a run that has no output
-abbrev pub IsRefusedEnd : WordsRefused → End → Type 0
+abbrev pub IsRefusedEnd : Refused RefusedSeat → End → Type 0
 IsRefusedEnd refused.Read end = (end.status ≡ 3) × (end.why ≡ why.Nothing)
 IsRefusedEnd refused.TooLarge end = (end.status ≡ 5) × (end.why ≡ why.Nothing)
-IsRefusedEnd (refused.Full seat) end = (end.status ≡ 6) × ShowsSeat seat end.why
-IsRefusedEnd (refused.Spent seat) end = (end.status ≡ 7) × ShowsSeat seat end.why
+IsRefusedEnd (refused.Full s) end = (end.status ≡ 6) × ShowsSeat s end.why
+IsRefusedEnd (refused.Spent s) end = (end.status ≡ 7) × ShowsSeat s end.why
 IsRefusedEnd refused.OutOfMemory end = (end.status ≡ 9) × (end.why ≡ why.Nothing)
 
 -- the end of a run that offered this output to the sink
@@ -99,11 +100,11 @@ pub record Ends (fits : List ℕ → Type 0) (job : Job) (source : SourceRun) (s
       → IsTooLarge job source.told source.counts.overlong source.counts.overlong_now
   pub full :
       end.status ≡ 6
-      → (seat : SeatState View) × ShowsSeat seat end.why × IsFull fits job source.told seat
+      → (s : RefusedSeat) × ShowsSeat s end.why × IsFull fits job source.told s
   pub few : end.status ≡ 6 → AsksSlots job
   pub spent :
       end.status ≡ 7
-      → (seat : SeatState View) × ShowsSeat seat end.why × IsSpentFor job source.told seat
+      → (s : RefusedSeat) × ShowsSeat s end.why × IsSpentFor job source.told s
   pub memory :
       end.status ≡ 9
       → TookNothing sink

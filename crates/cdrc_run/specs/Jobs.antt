@@ -4,24 +4,33 @@ use Rattle.command_line.specs.cdrc_text.Generated.{generated_text}
 use Rattle.command_line.specs.Requests.{Asks}
 use Rattle.command_line.specs.run_requests.declared.asked.Bulk.{Bulk}
 use Rattle.command_line.specs.run_requests.declared.asked.Draws.{Draws}
+use Rattle.command_line.specs.run_requests.declared.asked.Protect.{Protect}
+use Rattle.command_line.specs.run_requests.declared.asked.Protect.TheVariants.{Announce, Epoch}
 use Rattle.command_line.specs.run_requests.declared.asked.Request.{Request}
 use Rattle.command_line.specs.run_requests.declared.asked.Request.TheVariants as request
 use Rattle.words_work.specs.queue_law.declared.view.Form.TheVariants.{Linked}
 use Rattle.words_work.specs.Contents.{bytes_in}
 use Rattle.words_work.specs.Limits as words
-use Rattle.words_work.specs.declared.plan.Plan.{Plan}
+use Rattle.words_work.specs.file_work.declared.plan.Plan.{Plan}
 
--- Count the words of the files with these names, as the plan says; run the script, or the list of steps, of a file;
--- draw words; draw words twice and count them.
+-- Count the words of the files with these names, as the plan says: by announcements, or in regions; run the script, or
+-- the list of steps, of a file; draw words; draw words twice and count them.
 pub data Job : Type 0 where
   count : List (List ℕ) → Plan → Job
+  regions : List (List ℕ) → Plan → Job
   script : List ℕ → Job
   steps : List ℕ → Job
   draw : Draws → Job
   bulk : Bulk → Job
 
+-- how words are counted
+abbrev pub counting : Protect → List (List ℕ) → Plan → Job
+counting Announce = count
+counting Epoch = regions
+
 abbrev pub job_of : Request → Job
-job_of (request.Words args) = count (words.names_of args) (words.plan_of args)
+job_of (request.Words args) =
+    counting args.protect (words.names_of args) (words.plan_of args)
 job_of (request.Script file) = script (string_bytes file)
 job_of (request.Steps file) = steps (string_bytes file)
 job_of (request.Generate draws) = draw draws
@@ -38,6 +47,7 @@ IsCommand line = (asked : Request) × Asks line asked
 -- the files that are read
 abbrev pub names_in : Job → List (List ℕ)
 names_in (count names plan) = names
+names_in (regions names plan) = names
 names_in (script file) = file ∷ []
 names_in (steps file) = file ∷ []
 names_in (draw draws) = []
@@ -78,6 +88,7 @@ drawn_plan drawn = record { lanes = drawn.lanes; rounds = 1; slots = None; first
 -- the contents of the files are within the limits of the job
 abbrev pub IsWithinLimits : Job → List (List ℕ) → Type 0
 IsWithinLimits (count names plan) contents = words.IsWithinLimits plan.rounds contents
+IsWithinLimits (regions names plan) contents = words.IsWithinLimits plan.rounds contents
 IsWithinLimits (script file) contents = bytes_in contents ≤ words.most_bytes
 IsWithinLimits (steps file) contents = bytes_in contents ≤ words.most_bytes
 IsWithinLimits (draw draws) contents = Unit {0}
@@ -86,6 +97,7 @@ IsWithinLimits (bulk drawn) contents = words.IsWithinLimits 1 (drawn_texts drawn
 -- they pass one of them
 abbrev pub PassesLimit : Job → List (List ℕ) → Type 0
 PassesLimit (count names plan) contents = words.PassesLimit plan.rounds contents
+PassesLimit (regions names plan) contents = words.PassesLimit plan.rounds contents
 PassesLimit (script file) contents = words.most_bytes < bytes_in contents
 PassesLimit (steps file) contents = words.most_bytes < bytes_in contents
 PassesLimit (draw draws) contents = ⊥
@@ -94,6 +106,7 @@ PassesLimit (bulk drawn) contents = words.HasTooMany 1 (drawn_texts drawn)
 -- a number of slots is asked for
 abbrev pub AsksSlots : Job → Type 0
 AsksSlots (count names plan) = (n : ℕ) × (plan.slots ≡ Some n)
+AsksSlots (regions names plan) = (n : ℕ) × (plan.slots ≡ Some n)
 AsksSlots (script file) = ⊥
 AsksSlots (steps file) = ⊥
 AsksSlots (draw draws) = ⊥

@@ -2,18 +2,18 @@
 ghost use Rattle.std.specs.Prelude.{◌≡◌, ◌≤◌, [], ◌∷◌, IfErr, IfOk, List, ℕ};
 ghost use Rattle.cdrc_run.specs.Jobs.{AreInRange, bulk, draw, drawn_texts, most_drawn, most_drawn_twice, next_draws, text_of_draws};
 ghost use Rattle.cdrc_run.specs.Outputs.{IsOutput, IsWhyNoOutput};
-ghost use Rattle.words_work.specs.Contents.{Told};
 ghost use Rattle.words_work.specs.Limits.{AreLanes};
-ghost use Rattle.words_work.specs.Outcomes.{Counts, bytes_of};
+ghost use Rattle.words_work.specs.Contents.{Counts, Told, bytes_of};
 
 use crate::closing::last_lines;
-use crate::outcome::{Output, Why};
+use crate::outcome::{Output, RefusedSeat, Why};
+use crate::refusing::of_words;
 use cdrc_scripts::{Deleter, PairKind};
 use command_line::{Bulk, Draws, OutOfMemory, PayloadKind, generate};
 use std::alloc::Global;
 use std::sync::Wait;
 use std::thread::Threads;
-use words_work::{Form, Gate, NodeKind, Plan, RecordKind, WordsDone, WordsRefused, count_contents};
+use words_work::{Form, Gate, NodeKind, Plan, RecordKind, Refused, WordsDone, count_contents};
 
 /// The text of drawn words.
 pub(crate) fn draw_words(alloc: Global, draws: Draws) -> Result<Output, OutOfMemory>
@@ -58,7 +58,7 @@ pub(crate) fn count_drawn<R: Threads + Wait + Sync, G: Gate + Sync>(
     alloc: Global,
     drawn: Bulk,
     gate: &G,
-) -> Result<Output, WordsRefused>
+) -> Result<Output, Refused<RefusedSeat>>
     requires draws { AreInRange most_drawn_twice drawn.draws }
     requires lanes { AreLanes drawn.lanes }
     ensures output { IfOk result (λ output.
@@ -77,11 +77,15 @@ pub(crate) fn count_drawn<R: Threads + Wait + Sync, G: Gate + Sync>(
         first: None,
         form: Form::Linked,
     };
+    let counted = match count_contents(rt, alloc, plan, texts, gate, &weigh) {
+        Ok(counted) => counted,
+        Err(refusal) => return Err(of_words(refusal)),
+    };
     let WordsDone {
         bytes,
         root,
         tallies,
-    } = count_contents(rt, alloc, plan, texts, gate, &weigh)?;
+    } = counted;
     Ok(Output {
         text: Vec::from_slice(alloc, last_lines(&bytes))?,
         refused: false,

@@ -1,28 +1,38 @@
 //! The end of a run with an output, and of one without.
 ghost use Rattle.std.specs.Prelude.{◌≡◌};
-ghost use Rattle.cdrc_run.specs.Ends.{IsRefusedEnd, IsWritingEnd, kept_evidence};
+ghost use Rattle.cdrc_run.specs.Ends.{IsRefusedEnd, IsWritingEnd, ShowsSeat, kept_evidence};
 
-use crate::outcome::{End, Output, Why};
+use crate::outcome::{End, Output, RefusedSeat, Why};
 use crate::output::{Unwritten, write_all};
 use std::alloc::Global;
-use words_work::{Sink, WordsRefused};
+use words_work::{Refused, Sink};
 
 /// The end of a run that has no output.
-pub(crate) fn refused_end(alloc: Global, refusal: WordsRefused) -> End
+pub(crate) fn refused_end(alloc: Global, refusal: Refused<RefusedSeat>) -> End
     ensures { IsRefusedEnd refusal result }
 {
     match refusal {
-        WordsRefused::Read => end_without(3),
-        WordsRefused::TooLarge => end_without(5),
-        WordsRefused::Full(seat) => End {
+        Refused::Read => end_without(3),
+        Refused::TooLarge => end_without(5),
+        Refused::Full(seat) => End {
             status: 6,
-            why: Why::Words(seat, Vec::new(alloc)),
+            why: seat_evidence(alloc, seat),
         },
-        WordsRefused::Spent(seat) => End {
+        Refused::Spent(seat) => End {
             status: 7,
-            why: Why::Words(seat, Vec::new(alloc)),
+            why: seat_evidence(alloc, seat),
         },
-        WordsRefused::OutOfMemory => end_without(9),
+        Refused::OutOfMemory => end_without(9),
+    }
+}
+
+/// The evidence of a refusal with this seat.
+fn seat_evidence(alloc: Global, seat: RefusedSeat) -> Why
+    ensures { ShowsSeat seat result }
+{
+    match seat {
+        RefusedSeat::Words(seat) => Why::Words(seat, Vec::new(alloc)),
+        RefusedSeat::Epoch(seat) => Why::Epoch(seat),
     }
 }
 
@@ -44,6 +54,7 @@ fn kept_evidence(why: Why) -> Why
     match why {
         Why::Nothing => Why::Nothing,
         Why::Words(root, tallies) => Why::Words(root, tallies),
+        Why::Epoch(root) => Why::Epoch(root),
         Why::Script(_) => Why::Nothing,
     }
 }

@@ -1,19 +1,22 @@
 //! What each job writes.
-ghost use Rattle.std.specs.Prelude.{◌≡◌, ◌≤◌, IfErr, IfOk, List, ℕ, length};
+ghost use Rattle.std.specs.Prelude.{◌≡◌, ◌<◌, ◌≤◌, IfErr, IfOk, List, ℕ, length};
 ghost use Rattle.cdrc_run.specs.Jobs as jobs;
 ghost use Rattle.cdrc_run.specs.Jobs.{HasRanges, HasTooManyFiles, job_of};
 ghost use Rattle.cdrc_run.specs.Outputs.{IsOutputOf, IsWhyNoOutput, evidence};
+ghost use Rattle.words_work.specs.Limits.{most_files, names_of, plan_of};
 
 use crate::drawing::{count_drawn, draw_words};
-use crate::outcome::{Output, Why};
+use crate::outcome::{Output, RefusedSeat, Why};
+use crate::refusing::{of_epoch, of_words};
 use cdrc_scripts::{Deleter, NoLaw, PairKind, ScriptKind, Scripted, Seat, Written, script};
 use cdrc_steps::steps;
-use command_line::{PayloadKind, Request, WordsArgs};
+use command_line::{PayloadKind, Protect, Request, WordsArgs};
+use epoch_work::{EpochDone, words_epoch};
 use std::alloc::Global;
 use std::sync::Wait;
 use std::thread::Threads;
 use words_work::{
-    Files, Gate, MOST_BYTES, NodeKind, RecordKind, WordsDone, WordsRefused, read_file, words_work,
+    Files, Gate, MOST_BYTES, NodeKind, RecordKind, Refused, WordsDone, read_file, words_work,
 };
 
 /// The output of what the words of the command line ask for. Too many files are refused before any is read. It may wait
@@ -24,7 +27,7 @@ pub(crate) fn output_of<R: Threads + Wait + Sync, F: Files, G: Gate + Sync>(
     request: &Request,
     files: &mut F,
     gate: &G,
-) -> Result<Output, WordsRefused>
+) -> Result<Output, Refused<RefusedSeat>>
     requires ranges { HasRanges request.now }
     ensures output { IfOk result (λ output. IsOutputOf (job_of request.now) (F.told files.old)
         output.text.items output.refused output.why) }
@@ -37,7 +40,7 @@ pub(crate) fn output_of<R: Threads + Wait + Sync, F: Files, G: Gate + Sync>(
           overlong_now = F.overlong files.new;
         })) }
     ensures many { HasTooManyFiles (job_of request.now)
-        → result ≡ Err WordsRefused.TooLarge }
+        → result ≡ Err Refused.TooLarge }
     ensures unread { HasTooManyFiles (job_of request.now) → files.new ≡ files.old }
 {
     match request {
@@ -49,6 +52,83 @@ pub(crate) fn output_of<R: Threads + Wait + Sync, F: Files, G: Gate + Sync>(
     }
 }
 
+/// The text of files, by announcements.
+fn count_announced<R: Threads + Wait + Sync, F: Files, G: Gate + Sync>(
+    rt: &R,
+    alloc: Global,
+    args: &WordsArgs,
+    files: &mut F,
+    gate: &G,
+) -> Result<Output, Refused<RefusedSeat>>
+    requires ranges { HasRanges (Request.Words args.now) }
+    ensures output { IfOk result (λ output.
+        IsOutputOf (jobs.count (names_of args.now) (plan_of args.now)) (F.told files.old)
+        output.text.items output.refused output.why) }
+    ensures why { IfErr result (IsWhyNoOutput
+        ⟦<PairKind<NodeKind, RecordKind> as PayloadKind>⟧.fits
+        (jobs.count (names_of args.now) (plan_of args.now)) (F.told files.old) (record {
+          faults = F.faults files.old;
+          faults_now = F.faults files.new;
+          overlong = F.overlong files.old;
+          overlong_now = F.overlong files.new;
+        })) }
+    ensures many { most_files < length (names_of args.now)
+        → result ≡ Err Refused.TooLarge }
+    ensures unread { most_files < length (names_of args.now) → files.new ≡ files.old }
+{
+    let weigh: Deleter<PairKind<NodeKind, RecordKind>, _> = Deleter::keep(|payload: &[u64; 16]| {
+        <PairKind<NodeKind, RecordKind> as PayloadKind>::weigh(payload)
+    });
+    match words_work(rt, alloc, args, files, gate, &weigh) {
+        Ok(
+            WordsDone {
+                bytes,
+                root,
+                tallies,
+            },
+        ) => Ok(Output {
+            text: bytes,
+            refused: false,
+            why: Why::Words(root, tallies),
+        }),
+        Err(refusal) => Err(of_words(refusal)),
+    }
+}
+
+/// The text of files, in regions.
+fn count_in_regions<R: Threads + Wait + Sync, F: Files, G: Gate + Sync>(
+    rt: &R,
+    alloc: Global,
+    args: &WordsArgs,
+    files: &mut F,
+    gate: &G,
+) -> Result<Output, Refused<RefusedSeat>>
+    requires ranges { HasRanges (Request.Words args.now) }
+    ensures output { IfOk result (λ output.
+        IsOutputOf (jobs.regions (names_of args.now) (plan_of args.now)) (F.told files.old)
+        output.text.items output.refused output.why) }
+    ensures why { IfErr result (IsWhyNoOutput
+        ⟦<PairKind<NodeKind, RecordKind> as PayloadKind>⟧.fits
+        (jobs.regions (names_of args.now) (plan_of args.now)) (F.told files.old) (record {
+          faults = F.faults files.old;
+          faults_now = F.faults files.new;
+          overlong = F.overlong files.old;
+          overlong_now = F.overlong files.new;
+        })) }
+    ensures many { most_files < length (names_of args.now)
+        → result ≡ Err Refused.TooLarge }
+    ensures unread { most_files < length (names_of args.now) → files.new ≡ files.old }
+{
+    match words_epoch(rt, alloc, args, files, gate) {
+        Ok(EpochDone { bytes, root }) => Ok(Output {
+            text: bytes,
+            refused: false,
+            why: Why::Epoch(root),
+        }),
+        Err(refusal) => Err(of_epoch(refusal)),
+    }
+}
+
 /// The text of files.
 fn count_files<R: Threads + Wait + Sync, F: Files, G: Gate + Sync>(
     rt: &R,
@@ -56,7 +136,7 @@ fn count_files<R: Threads + Wait + Sync, F: Files, G: Gate + Sync>(
     args: &WordsArgs,
     files: &mut F,
     gate: &G,
-) -> Result<Output, WordsRefused>
+) -> Result<Output, Refused<RefusedSeat>>
     requires ranges { HasRanges (Request.Words args.now) }
     ensures output { IfOk result (λ output. IsOutputOf (job_of (Request.Words args.now))
         (F.told files.old) output.text.items output.refused output.why) }
@@ -69,26 +149,21 @@ fn count_files<R: Threads + Wait + Sync, F: Files, G: Gate + Sync>(
           overlong_now = F.overlong files.new;
         })) }
     ensures many { HasTooManyFiles (job_of (Request.Words args.now))
-        → result ≡ Err WordsRefused.TooLarge }
+        → result ≡ Err Refused.TooLarge }
     ensures unread { HasTooManyFiles (job_of (Request.Words args.now)) → files.new ≡ files.old }
 {
-    let weigh: Deleter<PairKind<NodeKind, RecordKind>, _> = Deleter::keep(|payload: &[u64; 16]| {
-        <PairKind<NodeKind, RecordKind> as PayloadKind>::weigh(payload)
-    });
-    let WordsDone {
-        bytes,
-        root,
-        tallies,
-    } = words_work(rt, alloc, args, files, gate, &weigh)?;
-    Ok(Output {
-        text: bytes,
-        refused: false,
-        why: Why::Words(root, tallies),
-    })
+    match args.protect {
+        Protect::Announce => count_announced(rt, alloc, args, files, gate),
+        Protect::Epoch => count_in_regions(rt, alloc, args, files, gate),
+    }
 }
 
 /// What a script writes.
-fn run_script<F: Files>(alloc: Global, name: &str, files: &mut F) -> Result<Output, WordsRefused>
+fn run_script<F: Files>(
+    alloc: Global,
+    name: &str,
+    files: &mut F,
+) -> Result<Output, Refused<RefusedSeat>>
     ensures output { IfOk result (λ output. IsOutputOf (jobs.script name.now) (F.told files.old)
         output.text.items output.refused output.why) }
     ensures why { IfErr result (IsWhyNoOutput
@@ -100,7 +175,7 @@ fn run_script<F: Files>(alloc: Global, name: &str, files: &mut F) -> Result<Outp
           overlong_now = F.overlong files.new;
         })) }
 {
-    let content = read_file(alloc, files, name, MOST_BYTES)?;
+    let content = read_file::<F, RefusedSeat>(alloc, files, name, MOST_BYTES)?;
     let Scripted { written, seat } = script(alloc, &content)?;
     let Written { text, refused } = written;
     Ok(Output {
@@ -121,7 +196,11 @@ fn evidence(seat: Option<Seat<NoLaw<ScriptKind>>>) -> Why
 }
 
 /// What a list of steps writes.
-fn run_steps<F: Files>(alloc: Global, name: &str, files: &mut F) -> Result<Output, WordsRefused>
+fn run_steps<F: Files>(
+    alloc: Global,
+    name: &str,
+    files: &mut F,
+) -> Result<Output, Refused<RefusedSeat>>
     ensures output { IfOk result (λ output. IsOutputOf (jobs.steps name.now) (F.told files.old)
         output.text.items output.refused output.why) }
     ensures why { IfErr result (IsWhyNoOutput
@@ -133,7 +212,7 @@ fn run_steps<F: Files>(alloc: Global, name: &str, files: &mut F) -> Result<Outpu
           overlong_now = F.overlong files.new;
         })) }
 {
-    let content = read_file(alloc, files, name, MOST_BYTES)?;
+    let content = read_file::<F, RefusedSeat>(alloc, files, name, MOST_BYTES)?;
     let Written { text, refused } = steps(alloc, &content)?;
     Ok(Output {
         text,

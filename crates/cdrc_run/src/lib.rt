@@ -25,11 +25,12 @@ mod jobs;
 mod outcome;
 mod output;
 mod processing;
+mod refusing;
 mod running;
 mod starting;
 
 pub use explaining::{exit_status, explain};
-pub use outcome::{End, Why};
+pub use outcome::{End, RefusedSeat, Why};
 pub use processing::{HostLines, StatusLines, process};
 pub use running::run;
 pub use starting::start;

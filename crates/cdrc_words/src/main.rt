@@ -4,7 +4,7 @@
 //! ends.
 //!
 //! ```text
-//! cdrc_words words [--lanes N] [--rounds N] [--slots N] [--queue linked|double] FILE..
+//! cdrc_words words [--lanes N] [--rounds N] [--slots N] [--queue linked|double | --protect announce|epoch] FILE..
 //! cdrc_words script FILE
 //! cdrc_words steps FILE
 //! cdrc_words gen SEED WORDS VOCABULARY

@@ -1,8 +1,7 @@
 //! Counts that begin with too few slots, and begin anew.
 ghost use Rattle.std.specs.Prelude.{◌≤◌, IfOk};
-ghost use Rattle.words_work.specs.Contents.{bytes_in};
+ghost use Rattle.words_work.specs.Contents.{bytes_in, bytes_of};
 ghost use Rattle.words_work.specs.Limits.{most_bytes};
-ghost use Rattle.words_work.specs.Outcomes.{bytes_of};
 
 use crate::runs::{TWO, files_of, words_of};
 use std::alloc::Global;

@@ -30,6 +30,7 @@ fn turns_of_one_lane(rt: HostRuntime) -> Result<(), Fail> {
         ("words --lanes 1 f", 3),
         ("words --lanes 1 f g", 6),
         ("words --lanes 1 --rounds 3 f", 9),
+        ("words --protect epoch --lanes 1 --rounds 2 f g", 12),
         ("script s", 0),
         ("steps t", 0),
         ("gen 0 2 10", 0),
@@ -51,6 +52,7 @@ fn lanes_meet(rt: HostRuntime) -> Result<(), Fail> {
     for (line, turns, meets) in [
         ("words --lanes 2 f g", 1_000_000, true),
         ("words --lanes 2 --queue double f g", 1_000_000, true),
+        ("words --lanes 2 --protect epoch f g", 1_000_000, true),
         ("words --lanes 1 f g", 1_000, false),
     ] {
         let gate = Meet::new(turns);

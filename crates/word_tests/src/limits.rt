@@ -6,7 +6,7 @@ use crossbeam_utils::atomic::AtomicCell;
 use std::test::Fail;
 use words_work::{
     Deleter, HonestFiles, HonestSink, MemFiles, NodeKind, Open, PairKind, PayloadKind, PiecesError,
-    RecordKind, WordsArgs, pieces,
+    Protect, RecordKind, WordsArgs, pieces,
 };
 
 #[test]
@@ -78,6 +78,7 @@ fn objects_are_weighed(rt: HostRuntime) -> Result<(), Fail> {
         rounds: 1,
         slots: None,
         double: false,
+        protect: Protect::Announce,
     };
     let weighed = AtomicCell::new(0u64);
     let weigh: Deleter<PairKind<NodeKind, RecordKind>, _> = Deleter::keep(|payload: &[u64; 16]| {

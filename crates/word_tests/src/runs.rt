@@ -82,10 +82,13 @@ fn files_and_sinks_that_fail(rt: HostRuntime) -> Result<(), Fail> {
         ("words f f f f f", &[2], (99, &[]), 3, ""),
         ("words f f f f f", &[3], (99, &[]), 3, ""),
         ("words f f f f f", &[4], (99, &[]), 3, ""),
+        ("words --protect epoch f g", &[1], (99, &[]), 3, ""),
         // A write that fails, and writes of few bytes.
         ("words f", &[], (4, &[1]), 4, "2 1 "),
         ("words f", &[], (4, &[]), 0, A_B_A),
         ("words f g", &[], (1, &[]), 0, TWO),
+        ("words --protect epoch f", &[], (4, &[1]), 4, "2 1 "),
+        ("words --protect epoch f g", &[], (1, &[]), 0, TWO),
         ("script s", &[], (3, &[1]), 4, "mak"),
         ("script r", &[], (3, &[4]), 4, "make a ok\nli"),
         ("steps t", &[], (3, &[1]), 4, "cla"),
@@ -127,30 +130,36 @@ fn each_write_of_a_report_fails(rt: HostRuntime) -> Result<(), Fail> {
     Ok(())
 }
 
-// Where words were counted and written, or were not taken, what each seat popped is left, of lanes and of seat 0. Where
-// a lane found no slot, its seat is left. A script's seat is left where its first line opened a heap.
+// Where words were counted and written, or were not taken, what each seat popped is left, of lanes and of seat 0; in
+// regions seat 0 alone. Where a lane found no slot, its seat is left. A script's seat is left where its first line
+// opened a heap.
 #[test]
 fn evidence_that_is_left(rt: HostRuntime) -> Result<(), Fail> {
-    for (line, failing, status, tallies, scripts) in [
-        ("words --lanes 3 f", 99, 0, Some(4), false),
-        ("words --lanes 3 f", 0, 4, Some(4), false),
-        ("words --slots 1 f", 99, 6, Some(0), false),
-        ("bulk 0 1 10", 99, 0, Some(3), false),
-        ("bulk 0 1 10", 0, 4, Some(3), false),
-        ("script s", 99, 0, None, true),
-        ("script r", 99, 8, None, true),
-        ("script f", 99, 8, None, false),
-        ("steps t", 99, 0, None, false),
-        ("words h", 99, 3, None, false),
+    for (line, failing, status, tallies, evidence) in [
+        ("words --lanes 3 f", 99, 0, Some(4), "words"),
+        ("words --lanes 3 f", 0, 4, Some(4), "words"),
+        ("words --slots 1 f", 99, 6, Some(0), "words"),
+        ("words --protect epoch --lanes 3 f", 99, 0, None, "regions"),
+        ("words --protect epoch --lanes 3 f", 0, 4, None, "regions"),
+        ("words --protect epoch --slots 1 f", 99, 6, None, "regions"),
+        ("words --protect epoch h", 99, 3, None, "nothing"),
+        ("bulk 0 1 10", 99, 0, Some(3), "words"),
+        ("bulk 0 1 10", 0, 4, Some(3), "words"),
+        ("script s", 99, 0, None, "script"),
+        ("script r", 99, 8, None, "script"),
+        ("script f", 99, 8, None, "nothing"),
+        ("steps t", 99, 0, None, "nothing"),
+        ("words h", 99, 3, None, "nothing"),
     ] {
         let (end, _text) = ended(&rt, rt.alloc(), line, &[], 9, &[failing], &Open)?;
         assert!(rt; end.status == status, "{line}");
-        let (found, is_script) = match &end.why {
-            Why::Words(_, found) => (Some(found.len()), false),
-            Why::Script(_) => (None, true),
-            Why::Nothing => (None, false),
+        let (found, shown) = match &end.why {
+            Why::Words(_, found) => (Some(found.len()), "words"),
+            Why::Epoch(_) => (None, "regions"),
+            Why::Script(_) => (None, "script"),
+            Why::Nothing => (None, "nothing"),
         };
-        assert!(rt; found == tallies && is_script == scripts, "{line}");
+        assert!(rt; found == tallies && shown == evidence, "{line}");
     }
     Ok(())
 }
@@ -158,7 +167,12 @@ fn evidence_that_is_left(rt: HostRuntime) -> Result<(), Fail> {
 /// Where there is no memory the status is 9, and what was written is a prefix; and else it is as ever.
 #[test]
 fn runs_that_want_memory(rt: HostRuntime) -> Result<(), Fail> {
-    for (line, output) in [("words --lanes 1 f g", TWO), ("words --lanes 2 f g", TWO)] {
+    for (line, output) in [
+        ("words --lanes 1 f g", TWO),
+        ("words --lanes 2 f g", TWO),
+        ("words --protect epoch --lanes 1 f g", TWO),
+        ("words --protect epoch --lanes 2 f g", TWO),
+    ] {
         let outcome = ended(&rt, rt.alloc(), line, &[], 9, &[], &Open);
         let Ok((end, text)) = outcome else {
             return Ok(());

@@ -1,8 +1,8 @@
 use Rattle.std.proofs.Common.{◌≤◌, ◌∙◌, List, ℕ, map, refl, sym, subst}
 use Rattle.command_line.specs.cdrc_text.Pieces.{pieces_of}
-use Rattle.words_work.specs.Contents.{bytes_in}
+use Rattle.words_work.specs.Contents.{bytes_in, bytes_of}
 use Rattle.words_work.specs.Limits.{most_bytes}
-use Rattle.words_work.specs.Outcomes.{IsCounted, bytes_of}
+use Rattle.words_work.specs.Outcomes.{IsCounted}
 use Rattle.cdrc_run.specs.Closings.{EndsInLines}
 use Rattle.cdrc_run.specs.Jobs.{drawn_plan}
 use Rattle.cdrc_run.specs.Outputs.{IsClosing}
@@ -19,12 +19,12 @@ pub last_lines-requires : goal.last_lines-requires
 last_lines-requires g c =
     let texts = bytes_of c.in_ok-texts.texts.items in
     subst EndsInLines (sym c.deref.ensures.value)
-    (ends_in_lines (map pieces_of texts) 1 c.in_ok-bytes.field-0.bytes.items c.in_ok-bytes.ensures.done.text)
+    (ends_in_lines (map pieces_of texts) 1 c.in-Ok.counted.bytes.items c.in-Ok.ensures.done.text)
 
 pub returns-clause-output : goal.returns-clause-output
 returns-clause-output g c =
-    let texts = bytes_of c.in_ok-texts.texts.items in let done = c.in_ok-bytes.field-0 in
-    let counted = c.in_ok-bytes.ensures.done in
+    let texts = bytes_of c.in_ok-texts.texts.items in let done = c.in-Ok.counted in
+    let counted = c.in-Ok.ensures.done in
     let lines = c.in_ok-from_slice.field-0.items in
     let closing = closing_is (map pieces_of texts) 1 done.bytes.items counted.text lines
     (λ front distinct totals whole is. c.in_ok-from_slice.ensures.items
