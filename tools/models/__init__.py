@@ -35,7 +35,8 @@ def answers(arguments, content_of):
         return [Answer(0, bulk(*operands))]
     if command == b"words":
         contents = [content_of(name) for name in operands]
-        return words(contents, options.get(b"--rounds", 1), options.get(b"--slots"))
+        names = ("rounds", 1), ("slots", None), ("lanes", 2), ("protect", b"announce")
+        return words(contents, **{name: options.get(b"--%b" % name.encode(), usual) for name, usual in names})
     content = content_of(operands[0])
     if content is None:
         return [Answer(3)]

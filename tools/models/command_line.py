@@ -2,14 +2,14 @@
 from .lines import number
 
 OPTIONS = {
-    b"words": (b"--lanes", b"--rounds", b"--slots", b"--queue"),
+    b"words": (b"--lanes", b"--rounds", b"--slots", b"--queue", b"--protect"),
     b"script": (),
     b"steps": (),
     b"gen": (),
     b"bulk": (b"--lanes",),
 }
 VALUES = {b"--lanes": (1, 31), b"--rounds": (1, 1_000), b"--slots": (1, 4_194_304)}
-QUEUES = (b"linked", b"double")
+NAMES = {b"--queue": (b"linked", b"double"), b"--protect": (b"announce", b"epoch")}
 DRAWS = {
     b"gen": ((0, 2**64 - 1), (0, 1_000_000), (1, 1_000_000)),
     b"bulk": ((0, 2**64 - 1), (0, 500_000), (1, 1_000_000)),
@@ -38,7 +38,7 @@ def is_utf8(word):
 def value_of(option, word):
     if option in VALUES:
         return ranged(word, *VALUES[option])
-    if word not in QUEUES:
+    if word not in NAMES[option]:
         raise Faulty
     return word
 
@@ -59,6 +59,8 @@ def read(words):
             raise Faulty
         else:
             operands.append(word)
+    if options.get(b"--protect") == b"epoch" and b"--queue" in options:
+        raise Faulty
     return command, options, checked(command, operands + left)
 
 

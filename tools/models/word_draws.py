@@ -54,8 +54,9 @@ def draw_words(random):
     rounds = random.choice((1, 1, 2, 3))
     options = {
         "--lanes": random.choice((1, 1, 2, 2, 3, 4, 8, random.randint(1, 31), 31)),
-        "--queue": random.choice(("linked", "double")),
         "--rounds": rounds,
         "--slots": draw_slots(random, contents, rounds),
     }
+    form = random.choice((("--queue", "linked"), ("--queue", "double"), ("--protect", "epoch"), ("--protect", "announce")))
+    options.update([form])
     return contents, {name: value for name, value in options.items() if value is not None}

@@ -51,7 +51,17 @@ def never_enough(files):
     return sum(map(slots_of, distinct)) + 1 if distinct else 0
 
 
-def words(contents, rounds=1, slots=None):
+def enough_in_regions(files, rounds, lanes):
+    """The slots with which a run in regions always goes well, and the most with which none does.
+
+    Records live until the end. One lane makes each once; several may make one of a word for each of its pieces.
+    """
+    distinct = sum(slots_of(word) for word in {word for words in files for word in words})
+    pieces_too = rounds * sum(slots_of(word) for words in files for word in words)
+    return distinct if lanes == 1 else pieces_too, distinct - 1
+
+
+def words(contents, rounds=1, slots=None, lanes=2, protect=b"announce"):
     """The ways in which a run over these contents may end; None stands for a file that can't be read."""
     if len(contents) > MOST_FILES:
         return [Answer(5)]
@@ -66,8 +76,11 @@ def words(contents, rounds=1, slots=None):
     enough = always_enough(files, rounds)
     if rounds * sum(map(len, files)) > MOST_PIECES or enough > MOST_SLOTS:
         return [Answer(5)]
+    never = never_enough(files)
+    if protect == b"epoch":
+        enough, never = enough_in_regions(files, rounds, lanes)
     ends = []
-    if slots is None or slots > never_enough(files):
+    if slots is None or slots > never:
         ends.append(Answer(0, report(files, rounds)))
     if slots is not None and slots < enough and any(files):
         ends.append(Answer(6))
