@@ -43,8 +43,9 @@ cases: $(PROGRAM) ## runs the program on each case of the folder cases, and show
 soak: $(PROGRAM) ## runs the program on drawn inputs for MINUTES, and compares it with a model in Python
 	tools/soak.py $(PROGRAM) --minutes $(MINUTES)
 
-allocations: $(PROGRAM) ## refuses each allocation of three runs of the program in turn: status 9, or the same end
+allocations: $(PROGRAM) ## refuses each allocation of four runs of the program in turn: status 9, or the same end
 	tools/fail_allocations.py $(PROGRAM) words crates/cdrc_words/data/sample.txt crates/cdrc_words/data/second.txt
+	tools/fail_allocations.py $(PROGRAM) words --protect epoch crates/cdrc_words/data/sample.txt crates/cdrc_words/data/second.txt
 	tools/fail_allocations.py $(PROGRAM) script crates/cdrc_words/data/sample.script
 	tools/fail_allocations.py $(PROGRAM) steps crates/cdrc_words/data/sample.steps
 
