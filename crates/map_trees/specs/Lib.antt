@@ -1,0 +1,5 @@
+pub mod Trees
+pub mod Maps
+pub mod Balance
+pub mod Counting
+pub mod Promises
