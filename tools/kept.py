@@ -6,7 +6,8 @@
 In a fresh clone `rt check` proves every crate below anew, also where `rt ci` has proved the same text: it looks in each
 crate's out/ alone. This script asks the command `rt` itself which kept library fits each crate, copies that into the
 crate's out/, and writes the stamp by which `rt check` takes it as built. It reads `rt` as a module, so another version
-of the toolchain may need another script. The gate doesn't read what is placed here, and proves nothing by it.
+of the toolchain may need another script. The gate doesn't read what is placed here, and proves nothing by it. Run it once,
+in a fresh clone: it replaces libraries that `rt check` has built there, and what was built over those is refused then.
 
 It ends with the number of crates whose library was placed, and the names of those that no run has kept yet.
 """
