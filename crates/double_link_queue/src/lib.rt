@@ -18,7 +18,7 @@
 //! queue.attach(&rt, &domain, &mut seat);                       // this seat may push and pop then
 //! queue.push(&rt, &domain, &mut seat, item)?;                  // or PushRefused, with the item back
 //! let Some(item) = queue.try_pop(&domain, &mut seat)? else { .. };     // nothing was linked; or Again, Spent
-//! let found = queue.try_pop_with(&domain, &mut seat, 0)?;      // an item, with what its field 0 held before
+//! let found = queue.try_pop_with(&domain, &mut seat, 0, Still)?;   // an item, with what its field 0 held before
 //! queue.shut(&domain, &mut root);                              // once every other seat has left
 //! ```
 #![tactic(auto)]
@@ -46,4 +46,4 @@ pub use linked_queue::{
     PushError, PushRefused, QueueLaw,
 };
 pub use queue::DoubleQueue;
-pub use weak_part_calls::{Deleter, Domain, Seat, Spent, Strong, collect, reap};
+pub use weak_part_calls::{Deed, Deleter, Domain, Seat, Spent, Strong, collect, reap};

@@ -10,11 +10,12 @@ ghost use Rattle.linked_queue.specs.Leaving.{found_by};
 ghost use Rattle.linked_queue.specs.Losses.{IsWhyUnpopped};
 ghost use Rattle.linked_queue.specs.Pops.{OwnsBoth, Pops, PopsAtHead, PopsAtHeadWith, PopsWith, both_by, named_both};
 ghost use Rattle.linked_queue.specs.Queues.{IsAttached};
+ghost use Rattle.linked_queue.specs.Readings.{LeavesBeside, MayRead};
 ghost use Rattle.double_link_queue.specs.Queues.{IsDoubleOf};
 
 use crate::queue::DoubleQueue;
 use linked_queue::{HasQueue, PopError, pop_at, pop_with_at};
-use weak_part_calls::{Domain, Seat, Strong};
+use weak_part_calls::{Deed, Domain, Seat, Strong};
 
 impl DoubleQueue {
     /// Takes the first item off the queue, in one try, and answers a reference to it. `None` only where nothing was
@@ -54,20 +55,24 @@ impl DoubleQueue {
 
     /// Takes the first item off the queue, in one try, and answers a reference to it and one to what this field of it
     /// held, or `None` in its place where that was null. The field, 0 or 1, is read before the item is taken, so the
-    /// content is that at a step of this call, and where no add is left for it the item stays. `None` and `Spent` as in
-    /// `try_pop`, with four adds in place of three; the place of `Again` may be that field too. No make. At most 35
-    /// steps, and two collects.
-    pub fn try_pop_with<S, P: HasQueue<S>>(
+    /// content is that at a step of this call, and where no add is left for it the item stays. The deed goes with the
+    /// look that finds null there, or else with the check of what the look found, whichever item it is; `Still` is one
+    /// that learns nothing. `None` and `Spent` as in `try_pop`, with four adds in place of three; the place of `Again`
+    /// may be that field too. No make. At most 35 steps, and two collects.
+    pub fn try_pop_with<S, P: HasQueue<S>, D: Deed<P>>(
         &self,
         domain: &Domain<P>,
         seat: &mut Seat<P>,
         field: u32,
+        deed: D,
     ) -> Result<Option<(Strong, Option<Strong>)>, PopError>
         requires rest { IsAtRest domain.now seat.old }
         requires room { HasRoom seat.old.view.core }
         requires queue { IsDoubleOf self.now.head self.now.tail (as_part P.part domain.now) }
         requires attached { IsAttached (P.seen seat.old.view.client) }
         requires field { field < 2 }
+        requires deed { MayRead P.seen P.with_seen field (D.ready deed domain.now.protocol)
+            (D.next deed domain.now.protocol) seat.old.view.client }
         ensures events { IfOk result
             (λ found. PopsAtHeadWith P.Kind.fits (as_part P.part domain.now) (Some field)
             (named_both found) (seen_by P.seen seat.old) (seen_by P.seen seat.new)) }
@@ -82,10 +87,12 @@ impl DoubleQueue {
             (λ error. error ≡ unpopped.Spent → IsSpent seat.new.view.core) }
         ensures makes { seat.new.view.core.makes ≡ seat.old.view.core.makes }
         ensures attached { IsAttached (P.seen seat.new.view.client) }
-        ensures beside { StaysBeside P.seen P.with_seen seat.old seat.new }
+        ensures beside { LeavesBeside P.Kind.fits domain.now P.with_seen
+            (D.next deed domain.now.protocol) (D.allows deed domain.now.protocol)
+            (Some field) (both_by result) seat.old seat.new }
         ensures room { HasRoom seat.new.view.core }
         ensures rest { IsAtRest domain.now seat.new }
     {
-        pop_with_at(domain, seat, self.head, field)
+        pop_with_at(domain, seat, self.head, field, deed)
     }
 }

@@ -4,8 +4,8 @@ ghost use Rattle.hand_queues.specs.Queues.{IsAnyOf};
 use crate::any_queue::AnyQueue;
 use crate::hand_queue::HandQueue;
 use double_link_queue::{
-    Domain, DoubleQueue, HasQueue, LinkedQueue, PopError, PushError, PushRefused, Seat, Spent,
-    Strong,
+    Deed, Domain, DoubleQueue, HasQueue, LinkedQueue, PopError, PushError, PushRefused, Seat,
+    Spent, Strong,
 };
 use std::sync::Wait;
 
@@ -82,18 +82,23 @@ impl HandQueue for AnyQueue {
         }
     }
 
-    fn try_pop_with<S, P: HasQueue<S>>(
+    fn try_pop_with<S, P: HasQueue<S>, D: Deed<P>>(
         &self,
         domain: &Domain<P>,
         seat: &mut Seat<P>,
         field: u32,
+        deed: D,
     ) -> Result<Option<(Strong, Option<Strong>)>, PopError> {
         match self {
             AnyQueue::Linked(queue) => {
-                <LinkedQueue as HandQueue>::try_pop_with::<S, P>(queue, domain, seat, field)
+                <LinkedQueue as HandQueue>::try_pop_with::<S, P, D>(
+                    queue, domain, seat, field, deed,
+                )
             }
             AnyQueue::Double(queue) => {
-                <DoubleQueue as HandQueue>::try_pop_with::<S, P>(queue, domain, seat, field)
+                <DoubleQueue as HandQueue>::try_pop_with::<S, P, D>(
+                    queue, domain, seat, field, deed,
+                )
             }
         }
     }

@@ -3,7 +3,7 @@ ghost use Rattle.double_link_queue.specs.Queues.{IsDoubleOf};
 
 use crate::hand_queue::HandQueue;
 use double_link_queue::{
-    Domain, DoubleQueue, HasQueue, PopError, PushError, PushRefused, Seat, Spent, Strong,
+    Deed, Domain, DoubleQueue, HasQueue, PopError, PushError, PushRefused, Seat, Spent, Strong,
 };
 use std::sync::Wait;
 
@@ -45,13 +45,14 @@ impl HandQueue for DoubleQueue {
         DoubleQueue::try_pop::<S, P>(self, domain, seat)
     }
 
-    fn try_pop_with<S, P: HasQueue<S>>(
+    fn try_pop_with<S, P: HasQueue<S>, D: Deed<P>>(
         &self,
         domain: &Domain<P>,
         seat: &mut Seat<P>,
         field: u32,
+        deed: D,
     ) -> Result<Option<(Strong, Option<Strong>)>, PopError> {
-        DoubleQueue::try_pop_with::<S, P>(self, domain, seat, field)
+        DoubleQueue::try_pop_with::<S, P, D>(self, domain, seat, field, deed)
     }
 
     fn pop<S, P: HasQueue<S>, R: Wait>(

@@ -2,11 +2,12 @@
 use Rattle.std.proofs.Common.{◌≡◌, ℕ, ◌<◌, ◌∙◌, refl, ap, arith, List}
 use Rattle.std.specs.Prelude.{Err, IfOk, Ok, Option, Result, Some, None}
 use Rattle.queue_protocol.specs.plain_state.declared.act.EventPlace.{EventPlace}
+use Rattle.queue_protocol.specs.plain_state.State.{Plain}
 use Rattle.slot_store.specs.counted_handles.Handles.{Handle}
 use Rattle.slot_store.specs.counted_handles.declared.refusal.LoadError.{LoadError}
 use Rattle.slot_store.specs.counted_handles.declared.refusal.LoadError.TheVariants as unloaded
 use Rattle.slot_store.specs.core_events.Words.{slot_in}
-use Rattle.slot_store.specs.acquire_retire.Calls.{IsSameView, same_view}
+use Rattle.slot_store.specs.acquire_retire.Calls.{same_view}
 use Rattle.slot_store.specs.acquire_retire.Domains.{DomainState}
 use Rattle.slot_store.specs.acquire_retire.Seats.{SeatState}
 use Rattle.part_calls.specs.atomic_shared.Places.{named}
@@ -25,13 +26,14 @@ use Rattle.linked_queue.proofs.Nodes.{next_still}
 use Rattle.linked_queue.proofs.Owning.{found_more, through}
 use Rattle.linked_queue.proofs.Poppings.{leaves_on}
 
-module _ (fits : List ℕ → Type 0) (d : DomainState QueueLaw) (place : EventPlace) (old new : SeatState View)
+module _ (fits : List ℕ → Type 0) (d : DomainState QueueLaw) (place : EventPlace)
+    {allows : Plain → Plain → ℕ → View → View → Type 0} (old new : SeatState View)
     (rest : IsAtRest d old) where
   pub client_stays : (r : Result (Option Handle) LoadError)
       → (r ≡ Err unloaded.Spent → new ≡ old)
-      → IfOk r (λ found. Loads fits d place same_view IsSameView (named found) old new)
+      → IfOk r (λ found. Loads fits d place same_view allows (named found) old new)
       → ((was now : ℕ) → r ≡ Err (unloaded.Moved was now)
-      → Misses fits d 0 place same_view IsSameView (slot_in was) (slot_in now) old new)
+      → Misses fits d 0 place same_view allows (slot_in was) (slot_in now) old new)
       → new.view.client ≡ old.view.client
   client_stays (Ok None) same null moved = client_null d place old new null
   client_stays (Ok (Some h)) same l moved =

@@ -24,3 +24,4 @@ pub mod Shortages
 pub mod Attached
 pub mod HandedBack
 pub mod Accepting
+pub mod Readings

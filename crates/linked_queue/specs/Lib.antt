@@ -8,6 +8,7 @@ pub mod Cells
 pub mod Items
 pub mod Queues
 pub mod Leaving
+pub mod Readings
 pub mod Nodes
 pub mod Seeing
 pub mod Pops

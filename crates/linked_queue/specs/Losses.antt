@@ -40,7 +40,7 @@ module _ (fits : List ℕ → Type 0) (d : DomainState QueueLaw) where
   abbrev pub MissesContent : Option ℕ → SlotId → ℕ → ℕ → SeatState View → SeatState View → Type 0
   MissesContent None item seen now old new = ⊥
   MissesContent (Some f) item seen now old new =
-      MissesAt fits d (Field item f) same_view IsSameView seen now old new
+      MissesAt fits d (Field item f) same_view TellsNothing seen now old new
 
   -- It read the field, and lost the exchange of the head cell.
   pub record LosesTake (field : Option ℕ) (front next item : SlotId) (seen now : ℕ)

@@ -130,7 +130,7 @@ module _ (fits : List ℕ → Type 0) (d : DomainState QueueLaw) where
   abbrev pub Reads : Option ℕ → SlotId → Option SlotId → SeatState View → SeatState View → Type 0
   Reads None item content old new = (content ≡ None) × (new ≡ old)
   Reads (Some f) item content old new =
-      Loads fits d (Field item f) same_view IsSameView content old new
+      Loads fits d (Field item f) same_view TellsNothing content old new
 
   -- It read the field, exchanged the head's node, and cleared the item of the new dummy.
   pub record TakesWith (field : Option ℕ) (front next item : SlotId) (content : Option SlotId)

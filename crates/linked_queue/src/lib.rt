@@ -15,7 +15,7 @@
 //! queue.attach(&rt, &domain, &mut seat);                       // this seat may push and pop then
 //! queue.push(&rt, &domain, &mut seat, item)?;                  // or PushRefused, with the item back
 //! let Some(item) = queue.try_pop(&domain, &mut seat)? else { .. };     // nothing was linked; or Again, Spent
-//! let found = queue.try_pop_with(&domain, &mut seat, 0)?;      // an item, with what its field 0 held before
+//! let found = queue.try_pop_with(&domain, &mut seat, 0, Still)?;   // an item, with what its field 0 held before
 //! queue.shut(&domain, &mut root);                              // once every other seat has left
 //! ```
 #![tactic(auto)]

@@ -5,18 +5,18 @@ ghost use Rattle.slot_store.specs.core_events.Steps.{HasRoom};
 ghost use Rattle.part_calls.specs.atomic_shared.Places.{named};
 ghost use Rattle.slot_store.specs.control_word.Resting.{IsAtRest, IsSpent};
 ghost use Rattle.linked_queue.specs.declared.queue.PopError.TheVariants as unpopped;
-ghost use Rattle.part_calls.specs.Parts.{HasBeside, StaysBeside, as_part, seen_by};
-ghost use Rattle.queue_protocol.specs.queue_law.Views.{first_view};
+ghost use Rattle.part_calls.specs.Parts.{StaysBeside, as_part, seen_by};
 ghost use Rattle.linked_queue.specs.Leaving.{found_by};
 ghost use Rattle.linked_queue.specs.Losses.{IsWhyUnpopped};
 ghost use Rattle.linked_queue.specs.Pops.{OwnsBoth, Pops, PopsAtHead, PopsAtHeadWith, PopsWith, adds_of, both_by, named_both};
 ghost use Rattle.linked_queue.specs.Queues.{IsAttached, IsQueueOf};
+ghost use Rattle.linked_queue.specs.Readings.{LeavesBeside, MayRead, MayReadOne};
 
 use crate::queue::{LinkedQueue, PopError};
 use crate::seeing::see_head;
 use crate::taking::refusal_of;
 use crate::walking::pop_behind;
-use part_calls::drop_strong;
+use part_calls::{Deed, Still, drop_strong};
 use queue_protocol::{HasQueue, QueueLaw};
 use slot_store::{Domain, Seat, Strong};
 
@@ -58,20 +58,24 @@ impl LinkedQueue {
 
     /// Takes the first item off the queue, in one try, and answers a reference to it and one to what this field of it
     /// held, or `None` in its place where that was null. The field, 0 or 1, is read before the item is taken, so the
-    /// content is that at a step of this call, and where no add is left for it the item stays. `None` and `Spent` as in
-    /// `try_pop`, with four adds in place of three; the place of `Again` may be that field too. No make. At most 35
-    /// steps, and two collects.
-    pub fn try_pop_with<S, P: HasQueue<S>>(
+    /// content is that at a step of this call, and where no add is left for it the item stays. The deed goes with the
+    /// look that finds null there, or else with the check of what the look found, whichever item it is; `Still` is one
+    /// that learns nothing. `None` and `Spent` as in `try_pop`, with four adds in place of three; the place of `Again`
+    /// may be that field too. No make. At most 35 steps, and two collects.
+    pub fn try_pop_with<S, P: HasQueue<S>, D: Deed<P>>(
         &self,
         domain: &Domain<P>,
         seat: &mut Seat<P>,
         field: u32,
+        deed: D,
     ) -> Result<Option<(Strong, Option<Strong>)>, PopError>
         requires rest { IsAtRest domain.now seat.old }
         requires room { HasRoom seat.old.view.core }
         requires queue { IsQueueOf self.now.head self.now.tail (as_part P.part domain.now) }
         requires attached { IsAttached (P.seen seat.old.view.client) }
         requires field { field < 2 }
+        requires deed { MayRead P.seen P.with_seen field (D.ready deed domain.now.protocol)
+            (D.next deed domain.now.protocol) seat.old.view.client }
         ensures events { IfOk result
             (λ found. PopsAtHeadWith P.Kind.fits (as_part P.part domain.now) (Some field)
             (named_both found) (seen_by P.seen seat.old) (seen_by P.seen seat.new)) }
@@ -86,11 +90,13 @@ impl LinkedQueue {
             (λ error. error ≡ unpopped.Spent → IsSpent seat.new.view.core) }
         ensures makes { seat.new.view.core.makes ≡ seat.old.view.core.makes }
         ensures attached { IsAttached (P.seen seat.new.view.client) }
-        ensures beside { StaysBeside P.seen P.with_seen seat.old seat.new }
+        ensures beside { LeavesBeside P.Kind.fits domain.now P.with_seen
+            (D.next deed domain.now.protocol) (D.allows deed domain.now.protocol)
+            (Some field) (both_by result) seat.old seat.new }
         ensures room { HasRoom seat.new.view.core }
         ensures rest { IsAtRest domain.now seat.new }
     {
-        pop_with_at(domain, seat, self.head, field)
+        pop_with_at(domain, seat, self.head, field, deed)
     }
 }
 
@@ -123,7 +129,7 @@ pub fn pop_at<S, P: HasQueue<S>>(
     ensures room { HasRoom seat.new.view.core }
     ensures rest { IsAtRest domain.now seat.new }
 {
-    match pop_first(domain, seat, head, None) {
+    match pop_first(domain, seat, head, None, Still) {
         Ok(Some((item, _content))) => Ok(Some(item)),
         Ok(None) => Ok(None),
         Err(error) => Err(error),
@@ -131,11 +137,12 @@ pub fn pop_at<S, P: HasQueue<S>>(
 }
 
 /// `try_pop_with` of a queue of either form that has this head cell.
-pub fn pop_with_at<S, P: HasQueue<S>>(
+pub fn pop_with_at<S, P: HasQueue<S>, D: Deed<P>>(
     domain: &Domain<P>,
     seat: &mut Seat<P>,
     head: u32,
     field: u32,
+    deed: D,
 ) -> Result<Option<(Strong, Option<Strong>)>, PopError>
     requires rest { IsAtRest domain.now seat.old }
     requires room { HasRoom seat.old.view.core }
@@ -143,6 +150,8 @@ pub fn pop_with_at<S, P: HasQueue<S>>(
     requires there { head < domain.now.shape.cells }
     requires attached { IsAttached (P.seen seat.old.view.client) }
     requires field { field < 2 }
+    requires deed { MayRead P.seen P.with_seen field (D.ready deed domain.now.protocol)
+        (D.next deed domain.now.protocol) seat.old.view.client }
     ensures events { IfOk result
         (λ found. PopsAtHeadWith P.Kind.fits (as_part P.part domain.now) (Some field)
         (named_both found) (seen_by P.seen seat.old) (seen_by P.seen seat.new)) }
@@ -157,19 +166,22 @@ pub fn pop_with_at<S, P: HasQueue<S>>(
         (λ error. error ≡ unpopped.Spent → IsSpent seat.new.view.core) }
     ensures makes { seat.new.view.core.makes ≡ seat.old.view.core.makes }
     ensures attached { IsAttached (P.seen seat.new.view.client) }
-    ensures beside { StaysBeside P.seen P.with_seen seat.old seat.new }
+    ensures beside { LeavesBeside P.Kind.fits domain.now P.with_seen
+        (D.next deed domain.now.protocol) (D.allows deed domain.now.protocol)
+        (Some field) (both_by result) seat.old seat.new }
     ensures room { HasRoom seat.new.view.core }
     ensures rest { IsAtRest domain.now seat.new }
 {
-    pop_first(domain, seat, head, Some(field))
+    pop_first(domain, seat, head, Some(field), deed)
 }
 
 /// The same, with what this field of the item held, where one is named.
-fn pop_first<S, P: HasQueue<S>>(
+fn pop_first<S, P: HasQueue<S>, D: Deed<P>>(
     domain: &Domain<P>,
     seat: &mut Seat<P>,
     head: u32,
     field: Option<u32>,
+    deed: D,
 ) -> Result<Option<(Strong, Option<Strong>)>, PopError>
     requires rest { IsAtRest domain.now seat.old }
     requires room { HasRoom seat.old.view.core }
@@ -177,6 +189,8 @@ fn pop_first<S, P: HasQueue<S>>(
     requires there { head < domain.now.shape.cells }
     requires attached { IsAttached (P.seen seat.old.view.client) }
     requires field { IfSome field (λ f. f < 2) }
+    requires deed { MayReadOne P.seen P.with_seen field (D.ready deed domain.now.protocol)
+        (D.next deed domain.now.protocol) seat.old.view.client }
     ensures events { IfOk result (λ found. PopsAtHeadWith P.Kind.fits (as_part P.part domain.now)
         field (named_both found) (seen_by P.seen seat.old) (seen_by P.seen seat.new)) }
     ensures popped { PopsWith (both_by result) (seen_by P.seen seat.old)
@@ -185,7 +199,9 @@ fn pop_first<S, P: HasQueue<S>>(
         field (3 + adds_of field) error (seen_by P.seen seat.old) (seen_by P.seen seat.new)) }
     ensures makes { seat.new.view.core.makes ≡ seat.old.view.core.makes }
     ensures spent { IfErr result (λ error. error ≡ unpopped.Spent → IsSpent seat.new.view.core) }
-    ensures beside_part { HasBeside P.with_seen first_view seat.old seat.new }
+    ensures beside { LeavesBeside P.Kind.fits domain.now P.with_seen
+        (D.next deed domain.now.protocol) (D.allows deed domain.now.protocol)
+        field (both_by result) seat.old seat.new }
     ensures room { HasRoom seat.new.view.core }
     ensures rest { IsAtRest domain.now seat.new }
 {
@@ -193,7 +209,7 @@ fn pop_first<S, P: HasQueue<S>>(
         Ok(front) => front,
         Err(error) => return Err(refusal_of(error)),
     };
-    let popped = pop_behind(domain, seat, head, front.slot(), field);
+    let popped = pop_behind(domain, seat, head, front.slot(), field, deed);
     drop_strong::<QueueLaw, S, P>(domain, seat, front);
     popped
 }

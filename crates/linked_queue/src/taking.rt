@@ -15,13 +15,14 @@ ghost use Rattle.linked_queue.specs.Leaving.{Leaves, found_by, with_found, witho
 ghost use Rattle.linked_queue.specs.Losses.{DropsFound, LosesHead, LosesWith};
 ghost use Rattle.linked_queue.specs.Pops.{HasEmptied, IsWhyLost, Takes, TakesWith, adds_of, item_in, popped_too, unpopped_by};
 ghost use Rattle.linked_queue.specs.Queues.{IsAttached, deeds_in};
+ghost use Rattle.linked_queue.specs.Readings.{LeavesBeside, MayReadOne, taken_by};
 ghost use Rattle.linked_queue.specs.Seeing.{SeesItem};
 ghost use Rattle.linked_queue.specs.UnlessRipe.{next_unless};
 
 use crate::queue::PopError;
 use crate::reading::see_content;
 use crate::unless_ripe::UnlessRipe;
-use part_calls::{LoadError, Place, copy_strong, drop_strong, store, try_replace};
+use part_calls::{Deed, LoadError, Place, copy_strong, drop_strong, store, try_replace};
 use queue_protocol::{EmptyDummy, HasQueue, QueueLaw, TakeItem};
 use slot_store::{Domain, Seat, SlotId, Strong, held_as};
 
@@ -93,12 +94,13 @@ fn take<S, P: HasQueue<S>>(
 
 /// The same, with a reference to what this field of the item holds, where a field is named; and the new dummy's item is
 /// cleared.
-pub(crate) fn take_with<S, P: HasQueue<S>>(
+pub(crate) fn take_with<S, P: HasQueue<S>, D: Deed<P>>(
     domain: &Domain<P>,
     seat: &mut Seat<P>,
     head: u32,
     sight: Sight,
     field: Option<u32>,
+    deed: D,
 ) -> Result<Option<Strong>, PopError>
     requires rest { IsAtRest domain.now seat.old }
     requires room { HasRoom seat.old.view.core }
@@ -107,6 +109,8 @@ pub(crate) fn take_with<S, P: HasQueue<S>>(
     requires attached { IsAttached (P.seen seat.old.view.client) }
     requires sees { SeesItem sight.front sight.next sight.item (seen_by P.seen seat.old) }
     requires field { IfSome field (λ f. f < 2) }
+    requires deed { MayReadOne P.seen P.with_seen field (D.ready deed domain.now.protocol)
+        (D.next deed domain.now.protocol) seat.old.view.client }
     ensures takes { IfOk result (λ content. TakesWith P.Kind.fits (as_part P.part domain.now)
         field sight.front sight.next sight.item (named content)
         (seen_by P.seen seat.old) (seen_by P.seen seat.new)) }
@@ -123,11 +127,13 @@ pub(crate) fn take_with<S, P: HasQueue<S>>(
     ensures leaves { Leaves (with_found (found_by result) seat.old.view.core.owned)
         (seen_by P.seen seat.old) (seen_by P.seen seat.new) }
     ensures spent { IfErr result (λ error. error ≡ unpopped.Spent → IsSpent seat.new.view.core) }
-    ensures beside_part { HasBeside P.with_seen first_view seat.old seat.new }
+    ensures beside { LeavesBeside P.Kind.fits domain.now P.with_seen
+        (D.next deed domain.now.protocol) (D.allows deed domain.now.protocol)
+        field (taken_by sight.item result) seat.old seat.new }
     ensures room { HasRoom seat.new.view.core }
     ensures rest { IsAtRest domain.now seat.new }
 {
-    let content = match see_content(domain, seat, sight.item, field) {
+    let content = match see_content(domain, seat, sight.item, field, deed) {
         Ok(content) => content,
         Err(error) => return Err(refusal_of(error)),
     };

@@ -7,27 +7,28 @@ ghost use Rattle.slot_store.specs.core_events.Steps.{HasRoom};
 ghost use Rattle.part_calls.specs.atomic_shared.Places.{named};
 ghost use Rattle.slot_store.specs.control_word.Resting.{IsAtRest, IsSpent};
 ghost use Rattle.linked_queue.specs.declared.queue.PopError.TheVariants as unpopped;
-ghost use Rattle.part_calls.specs.Parts.{HasBeside, as_part, seen_by};
-ghost use Rattle.queue_protocol.specs.queue_law.Views.{first_view};
+ghost use Rattle.part_calls.specs.Parts.{as_part, seen_by};
 ghost use Rattle.linked_queue.specs.Losses.{LosesBehind, LosesNode};
 ghost use Rattle.linked_queue.specs.Pops.{IsWhyLost, PopsBehind, PopsWith, TakesItem, adds_of, both_by, named_both, pair_by};
 ghost use Rattle.linked_queue.specs.Queues.{IsAttached};
+ghost use Rattle.linked_queue.specs.Readings.{LeavesBeside, MayReadOne};
 ghost use Rattle.linked_queue.specs.Seeing.{SeesHead, SeesNext};
 
 use crate::queue::PopError;
 use crate::seeing::{see_gone, see_item, see_next};
 use crate::taking::{Sight, refusal_of, take_with};
-use part_calls::drop_strong;
+use part_calls::{Deed, drop_strong};
 use queue_protocol::{HasQueue, QueueLaw};
 use slot_store::{Domain, Seat, SlotId, Strong, held_as};
 
-/// A pop by a seat that has seen the head's node. It reads this field of the item, where one is named.
-pub(crate) fn pop_behind<S, P: HasQueue<S>>(
+/// A pop by a seat that has seen the head's node. It reads this field of the item, where one is named, with the deed.
+pub(crate) fn pop_behind<S, P: HasQueue<S>, D: Deed<P>>(
     domain: &Domain<P>,
     seat: &mut Seat<P>,
     head: u32,
     front: SlotId,
     field: Option<u32>,
+    deed: D,
 ) -> Result<Option<(Strong, Option<Strong>)>, PopError>
     requires rest { IsAtRest domain.now seat.old }
     requires room { HasRoom seat.old.view.core }
@@ -36,6 +37,8 @@ pub(crate) fn pop_behind<S, P: HasQueue<S>>(
     requires attached { IsAttached (P.seen seat.old.view.client) }
     requires front { SeesHead front (seen_by P.seen seat.old) }
     requires field { IfSome field (λ f. f < 2) }
+    requires deed { MayReadOne P.seen P.with_seen field (D.ready deed domain.now.protocol)
+        (D.next deed domain.now.protocol) seat.old.view.client }
     ensures events { IfOk result (λ found. PopsBehind P.Kind.fits (as_part P.part domain.now)
         field front (named_both found) (seen_by P.seen seat.old) (seen_by P.seen seat.new)) }
     ensures popped { PopsWith (both_by result) (seen_by P.seen seat.old)
@@ -46,7 +49,9 @@ pub(crate) fn pop_behind<S, P: HasQueue<S>>(
         (seen_by P.seen seat.old)) }
     ensures makes { seat.new.view.core.makes ≡ seat.old.view.core.makes }
     ensures spent { IfErr result (λ error. error ≡ unpopped.Spent → IsSpent seat.new.view.core) }
-    ensures beside_part { HasBeside P.with_seen first_view seat.old seat.new }
+    ensures beside { LeavesBeside P.Kind.fits domain.now P.with_seen
+        (D.next deed domain.now.protocol) (D.allows deed domain.now.protocol)
+        field (both_by result) seat.old seat.new }
     ensures room { HasRoom seat.new.view.core }
     ensures rest { IsAtRest domain.now seat.new }
 {
@@ -55,7 +60,7 @@ pub(crate) fn pop_behind<S, P: HasQueue<S>>(
         Ok(None) => return Ok(None),
         Err(error) => return Err(refusal_of(error)),
     };
-    let popped = pop_node(domain, seat, head, front, next.slot(), field);
+    let popped = pop_node(domain, seat, head, front, next.slot(), field, deed);
     drop_strong::<QueueLaw, S, P>(domain, seat, next);
     match popped {
         Ok(found) => Ok(Some(found)),
@@ -64,13 +69,14 @@ pub(crate) fn pop_behind<S, P: HasQueue<S>>(
 }
 
 /// A pop by a seat that has seen the next node too.
-fn pop_node<S, P: HasQueue<S>>(
+fn pop_node<S, P: HasQueue<S>, D: Deed<P>>(
     domain: &Domain<P>,
     seat: &mut Seat<P>,
     head: u32,
     front: SlotId,
     next: SlotId,
     field: Option<u32>,
+    deed: D,
 ) -> Result<(Strong, Option<Strong>), PopError>
     requires rest { IsAtRest domain.now seat.old }
     requires room { HasRoom seat.old.view.core }
@@ -79,6 +85,8 @@ fn pop_node<S, P: HasQueue<S>>(
     requires attached { IsAttached (P.seen seat.old.view.client) }
     requires next { SeesNext front next (seen_by P.seen seat.old) }
     requires field { IfSome field (λ f. f < 2) }
+    requires deed { MayReadOne P.seen P.with_seen field (D.ready deed domain.now.protocol)
+        (D.next deed domain.now.protocol) seat.old.view.client }
     ensures events { IfOk result (λ found. TakesItem P.Kind.fits (as_part P.part domain.now)
         field front next found.0.slot (named found.1) (seen_by P.seen seat.old)
         (seen_by P.seen seat.new)) }
@@ -90,7 +98,9 @@ fn pop_node<S, P: HasQueue<S>>(
         (seen_by P.seen seat.old)) }
     ensures makes { seat.new.view.core.makes ≡ seat.old.view.core.makes }
     ensures spent { IfErr result (λ error. error ≡ unpopped.Spent → IsSpent seat.new.view.core) }
-    ensures beside_part { HasBeside P.with_seen first_view seat.old seat.new }
+    ensures beside { LeavesBeside P.Kind.fits domain.now P.with_seen
+        (D.next deed domain.now.protocol) (D.allows deed domain.now.protocol)
+        field (pair_by result) seat.old seat.new }
     ensures room { HasRoom seat.new.view.core }
     ensures rest { IsAtRest domain.now seat.new }
 {
@@ -108,7 +118,7 @@ fn pop_node<S, P: HasQueue<S>>(
         next,
         item: item.slot(),
     };
-    match take_with(domain, seat, head, sight, field) {
+    match take_with(domain, seat, head, sight, field, deed) {
         Ok(content) => Ok((item, content)),
         Err(error) => {
             drop_strong::<QueueLaw, S, P>(domain, seat, item);

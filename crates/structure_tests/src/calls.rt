@@ -8,7 +8,7 @@ ghost use Rattle.structure_tests.specs.Ready.{IsLetterIn, IsNew, IsReady, Stands
 
 use crate::letters::{HandleLetter, Letter, Letters, Mail};
 use hand_queues::{HandQueue, PopError, PushError, PushRefused, QueueLaw};
-use part_calls::{Domain, Left, Part, Right, Seat, SlotId, Spent, Strong, read};
+use part_calls::{Domain, Left, Part, Right, Seat, SlotId, Spent, Still, Strong, read};
 use std::sync::Wait;
 use weak_intern::{MakeError, drop_strong};
 
@@ -184,5 +184,5 @@ pub(crate) fn try_pop_with<H: HandQueue>(
     ensures stands { StandsAs seat.old seat.new }
     ensures ready { IsReady domain.now seat.new }
 {
-    queue.try_pop_with::<Left, Mail>(domain, seat, field)
+    queue.try_pop_with::<Left, Mail, _>(domain, seat, field, Still)
 }

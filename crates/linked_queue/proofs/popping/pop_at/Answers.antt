@@ -41,16 +41,16 @@ pub returns-in-Ok-Some-clause-beside : goal.returns-in-Ok-Some-clause-beside
 returns-in-Ok-Some-clause-beside g c =
     stays_beside g.P.Part.seen g.P.Part.with_seen first_view g.P.Part.puts_back
     g.P.Part.puts_over c.args.seat.now c.pop_first.new.seat
-    c.pop_first.ensures.beside_part
+    c.pop_first.ensures.beside
 
 pub returns-in-Ok-None-clause-beside : goal.returns-in-Ok-None-clause-beside
 returns-in-Ok-None-clause-beside g c =
     stays_beside g.P.Part.seen g.P.Part.with_seen first_view g.P.Part.puts_back
     g.P.Part.puts_over c.args.seat.now c.pop_first.new.seat
-    c.pop_first.ensures.beside_part
+    c.pop_first.ensures.beside
 
 pub returns-in-Err-clause-beside : goal.returns-in-Err-clause-beside
 returns-in-Err-clause-beside g c =
     stays_beside g.P.Part.seen g.P.Part.with_seen first_view g.P.Part.puts_back
     g.P.Part.puts_over c.args.seat.now c.pop_first.new.seat
-    c.pop_first.ensures.beside_part
+    c.pop_first.ensures.beside

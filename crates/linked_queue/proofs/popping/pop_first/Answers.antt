@@ -13,6 +13,7 @@ use Rattle.linked_queue.proofs.Both.{both_left}
 use Rattle.linked_queue.proofs.Leavings.{drop_leaves, drop_spent, then_err}
 use Rattle.linked_queue.proofs.Losings.{few_up, spent_by, why_of, why_up}
 use Rattle.linked_queue.proofs.Poppings.{pops_through}
+use Rattle.linked_queue.proofs.Readings.{may_on, through_beside, unread}
 use Rattle.linked_queue.proofs.popping.pop_first.Goals as goal
 
 pub returns-in-Err-clause-why : goal.returns-in-Err-clause-why
@@ -113,3 +114,36 @@ returns-clause-spent g c =
     (seen_by g.P.Part.seen c.pop_behind-popped.new.seat) (seen_by g.P.Part.seen c.drop_strong.new.seat)
     c.drop_strong.ensures.dropped (spent is))
     c.pop_behind-popped.ensures.spent
+
+pub pop_behind-popped-requires-clause-deed : goal.pop_behind-popped-requires-clause-deed
+pop_behind-popped-requires-clause-deed g c =
+    may_on g.P.Kind.PayloadKind.fits c.args.domain.now g.P.Part.seen g.P.Part.with_seen
+    (g.D.Deed.ready c.args.deed c.args.domain.now.protocol)
+    (g.D.Deed.next c.args.deed c.args.domain.now.protocol) c.args.field c.args.seat.now c.see_head.new.seat
+    c.see_head.ensures.beside_part c.requires.deed
+
+pub returns-in-Err-clause-beside : goal.returns-in-Err-clause-beside
+returns-in-Err-clause-beside g c =
+    unread g.P.Kind.PayloadKind.fits c.args.domain.now g.P.Part.seen g.P.Part.with_seen
+    (g.D.Deed.next c.args.deed c.args.domain.now.protocol)
+    (g.D.Deed.allows c.args.deed c.args.domain.now.protocol)
+    c.args.field c.args.seat.now c.see_head.new.seat c.see_head.ensures.beside_part
+
+pub returns-clause-beside : goal.returns-clause-beside
+returns-clause-beside g c =
+    let popped = seen_by g.P.Part.seen c.pop_behind-popped.new.seat in
+    let after = seen_by g.P.Part.seen c.drop_strong.new.seat in
+    let gives = drop_leaves c.in-Ok.front.slot popped after c.drop_strong.ensures.dropped
+    c.drop_strong.ensures.objects in
+    let all = pops_through c.in-Ok.front.slot (seen_by g.P.Part.seen c.args.seat.now)
+    (seen_by g.P.Part.seen c.see_head.new.seat) popped after
+    (both_by c.pop_behind-popped.result) c.in-Ok.ensures.leaves
+    (ap deeds_in c.see_head.ensures.beside) c.pop_behind-popped.ensures.popped gives
+    c.drop_strong.ensures.seen in
+    through_beside g.P.Kind.PayloadKind.fits c.args.domain.now g.P.Part.seen g.P.Part.with_seen
+    (g.D.Deed.next c.args.deed c.args.domain.now.protocol)
+    (g.D.Deed.allows c.args.deed c.args.domain.now.protocol)
+    c.args.field (both_by c.pop_behind-popped.result) c.in-Ok.front.slot
+    _ c.args.seat.now c.see_head.new.seat c.pop_behind-popped.new.seat c.drop_strong.new.seat
+    c.see_head.ensures.beside_part c.in-Ok.ensures.leaves c.pop_behind-popped.ensures.beside
+    c.pop_behind-popped.ensures.popped.leaves c.drop_strong.ensures.beside gives all.leaves

@@ -1,6 +1,4 @@
-use Rattle.part_calls.proofs.Beside.{stays_beside}
 use Rattle.part_calls.specs.Parts.{seen_by}
-use Rattle.queue_protocol.specs.queue_law.Views.{first_view}
 use Rattle.linked_queue.specs.Pops.{both_by}
 use Rattle.linked_queue.proofs.Attached.{pops_with_attached, pops_with_owned}
 use Rattle.linked_queue.proofs.popping.pop_with_at.Goals as goal
@@ -9,12 +7,6 @@ pub returns-clause-owned : goal.returns-clause-owned
 returns-clause-owned g c =
     pops_with_owned c.pop_first.result (seen_by g.P.Part.seen c.args.seat.now)
     (seen_by g.P.Part.seen c.pop_first.new.seat) c.pop_first.ensures.popped
-
-pub returns-clause-beside : goal.returns-clause-beside
-returns-clause-beside g c =
-    stays_beside g.P.Part.seen g.P.Part.with_seen first_view g.P.Part.puts_back
-    g.P.Part.puts_over c.args.seat.now c.pop_first.new.seat
-    c.pop_first.ensures.beside_part
 
 pub returns-clause-attached : goal.returns-clause-attached
 returns-clause-attached g c =

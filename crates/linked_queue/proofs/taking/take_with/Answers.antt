@@ -10,7 +10,9 @@ use Rattle.linked_queue.specs.Queues.{deeds_in}
 use Rattle.linked_queue.proofs.Attached.{content_owned}
 use Rattle.linked_queue.proofs.Contents.{given_up, known_still, sees_on}
 use Rattle.linked_queue.proofs.Losings.{few_up, spent_by, why_of, why_up}
+use Rattle.linked_queue.proofs.Owning.{found_more}
 use Rattle.linked_queue.proofs.Poppings.{item_still, leaves_on}
+use Rattle.linked_queue.proofs.Readings.{beside_then, knows_both, owned_content, refused, taken, untaken}
 use Rattle.linked_queue.proofs.taking.take_with.Goals as goal
 
 pub returns-in-Err-clause-why : goal.returns-in-Err-clause-why
@@ -116,3 +118,50 @@ returns-clause-leaves g c =
     leaves_on _ before taken after
     (leaves_on _ before read taken c.in-Ok.ensures.leaves c.take.ensures.leaves)
     c.empty.ensures.leaves
+
+pub returns-in-Err-clause-beside : goal.returns-in-Err-clause-beside
+returns-in-Err-clause-beside g c =
+    refused g.P.Kind.PayloadKind.fits c.args.domain.now g.P.Part.seen g.P.Part.with_seen
+    (g.D.Deed.next c.args.deed c.args.domain.now.protocol)
+    (g.D.Deed.allows c.args.deed c.args.domain.now.protocol)
+    c.args.field c.args.sight.item c.in-Err.error c.args.seat.now c.see_content.new.seat
+    c.in-Err.ensures.beside
+
+pub returns-in-Err-take-clause-beside : goal.returns-in-Err-take-clause-beside
+returns-in-Err-take-clause-beside g c =
+    untaken g.P.Kind.PayloadKind.fits c.args.domain.now g.P.Part.seen g.P.Part.with_seen
+    (g.D.Deed.next c.args.deed c.args.domain.now.protocol)
+    (g.D.Deed.allows c.args.deed c.args.domain.now.protocol)
+    c.args.field c.args.sight.item c.in-Ok.content c.args.seat.now c.see_content.new.seat
+    c.drop_found.new.seat c.in-Ok.ensures.beside
+    (beside_then g.P.Part.with_seen c.see_content.new.seat c.take.new.seat c.drop_found.new.seat
+    (record { same = c.take.ensures.beside_part; trail = c.take.ensures.leaves.trail })
+    (record { same = c.drop_found.ensures.beside_part; trail = c.drop_found.ensures.leaves.trail }))
+
+pub returns-clause-beside : goal.returns-clause-beside
+returns-clause-beside g c =
+    let item = c.args.sight.item in
+    let before = seen_by g.P.Part.seen c.args.seat.now in
+    let read = seen_by g.P.Part.seen c.see_content.new.seat in
+    let took = seen_by g.P.Part.seen c.take.new.seat in
+    let after = seen_by g.P.Part.seen c.empty.new.seat in
+    let last = leaves_on read.view.core.owned read took after c.take.ensures.leaves
+    c.empty.ensures.leaves in
+    let at_read = c.in-Ok.ensures.leaves.owns item in
+    let at_last = last.owns item in
+    let more = found_more (named c.in-Ok.content) item before.view.core.owned c.requires.sees.owns in
+    taken g.P.Kind.PayloadKind.fits c.args.domain.now g.P.Part.seen g.P.Part.with_seen
+    (g.D.Deed.next c.args.deed c.args.domain.now.protocol)
+    (g.D.Deed.allows c.args.deed c.args.domain.now.protocol)
+    c.args.field item c.in-Ok.content c.args.seat.now c.see_content.new.seat c.empty.new.seat
+    c.in-Ok.ensures.beside
+    (record {
+      same = c.empty.ensures.beside_part ∙ c.take.ensures.beside_part;
+      trail = last.trail;
+    })
+    (knows_both g.P.Part.seen item (named c.in-Ok.content) read.view.core.owned
+    c.see_content.new.seat c.empty.new.seat last (omega arith) (omega arith)
+    (owned_content (named c.in-Ok.content) before.view.core.owned read.view.core.owned
+    c.in-Ok.ensures.leaves.owns)
+    (owned_content (named c.in-Ok.content) before.view.core.owned after.view.core.owned
+    (λ x. last.owns x ∙ c.in-Ok.ensures.leaves.owns x)))

@@ -17,6 +17,7 @@ use Rattle.linked_queue.proofs.Both.{both_left}
 use Rattle.linked_queue.proofs.Leavings.{drop_leaves, drop_makes, drop_spent}
 use Rattle.linked_queue.proofs.Losings.{few_up, spent_by, why_of, why_up}
 use Rattle.linked_queue.proofs.Poppings.{pops_through}
+use Rattle.linked_queue.proofs.Readings.{may_on, through_beside, unread}
 use Rattle.linked_queue.proofs.walking.pop_behind.Goals as goal
 
 pub returns-in-Err-clause-why : goal.returns-in-Err-clause-why
@@ -146,3 +147,68 @@ returns-in-Err-popped-clause-makes g c =
     drop_makes c.in-Ok-Some.next.slot (seen_by g.P.Part.seen c.pop_node-popped.new.seat)
     (seen_by g.P.Part.seen c.drop_strong.new.seat) c.drop_strong.ensures.dropped
     ∙ c.pop_node-popped.ensures.makes ∙ c.see_next.ensures.makes
+
+pub pop_node-popped-requires-clause-deed : goal.pop_node-popped-requires-clause-deed
+pop_node-popped-requires-clause-deed g c =
+    may_on g.P.Kind.PayloadKind.fits c.args.domain.now g.P.Part.seen g.P.Part.with_seen
+    (g.D.Deed.ready c.args.deed c.args.domain.now.protocol)
+    (g.D.Deed.next c.args.deed c.args.domain.now.protocol) c.args.field c.args.seat.now c.see_next.new.seat
+    c.see_next.ensures.beside_part c.requires.deed
+
+pub returns-in-Err-clause-beside : goal.returns-in-Err-clause-beside
+returns-in-Err-clause-beside g c =
+    unread g.P.Kind.PayloadKind.fits c.args.domain.now g.P.Part.seen g.P.Part.with_seen
+    (g.D.Deed.next c.args.deed c.args.domain.now.protocol)
+    (g.D.Deed.allows c.args.deed c.args.domain.now.protocol)
+    c.args.field c.args.seat.now c.see_next.new.seat c.see_next.ensures.beside_part
+
+pub returns-in-Ok-None-clause-beside : goal.returns-in-Ok-None-clause-beside
+returns-in-Ok-None-clause-beside g c =
+    unread g.P.Kind.PayloadKind.fits c.args.domain.now g.P.Part.seen g.P.Part.with_seen
+    (g.D.Deed.next c.args.deed c.args.domain.now.protocol)
+    (g.D.Deed.allows c.args.deed c.args.domain.now.protocol)
+    c.args.field c.args.seat.now c.see_next.new.seat c.see_next.ensures.beside_part
+
+pub returns-in-Ok-clause-beside : goal.returns-in-Ok-clause-beside
+returns-in-Ok-clause-beside g c =
+    let gains = subst (λ (o : Option Handle). Leaves
+    (with_found (named o) c.args.seat.now.view.core.owned) (seen_by g.P.Part.seen c.args.seat.now)
+    (seen_by g.P.Part.seen c.see_next.new.seat))
+    c.in-Ok-Some.field-0-is c.in-Ok-Some.ensures.leaves in
+    let popped = seen_by g.P.Part.seen c.pop_node-popped.new.seat in
+    let after = seen_by g.P.Part.seen c.drop_strong.new.seat in
+    let gives = drop_leaves c.in-Ok-Some.next.slot popped after c.drop_strong.ensures.dropped
+    c.drop_strong.ensures.objects in
+    let all = pops_through c.in-Ok-Some.next.slot (seen_by g.P.Part.seen c.args.seat.now)
+    (seen_by g.P.Part.seen c.see_next.new.seat) popped after (named_both (Some c.in-Ok.found)) gains
+    (ap deeds_in c.see_next.ensures.beside) c.in-Ok.ensures.popped gives
+    c.drop_strong.ensures.seen in
+    through_beside g.P.Kind.PayloadKind.fits c.args.domain.now g.P.Part.seen g.P.Part.with_seen
+    (g.D.Deed.next c.args.deed c.args.domain.now.protocol)
+    (g.D.Deed.allows c.args.deed c.args.domain.now.protocol)
+    c.args.field (named_both (Some c.in-Ok.found)) c.in-Ok-Some.next.slot
+    _ c.args.seat.now c.see_next.new.seat c.pop_node-popped.new.seat c.drop_strong.new.seat
+    c.see_next.ensures.beside_part gains c.in-Ok.ensures.beside c.in-Ok.ensures.popped.leaves
+    c.drop_strong.ensures.beside gives all.leaves
+
+pub returns-in-Err-popped-clause-beside : goal.returns-in-Err-popped-clause-beside
+returns-in-Err-popped-clause-beside g c =
+    let gains = subst (λ (o : Option Handle). Leaves
+    (with_found (named o) c.args.seat.now.view.core.owned) (seen_by g.P.Part.seen c.args.seat.now)
+    (seen_by g.P.Part.seen c.see_next.new.seat))
+    c.in-Ok-Some.field-0-is c.in-Ok-Some.ensures.leaves in
+    let popped = seen_by g.P.Part.seen c.pop_node-popped.new.seat in
+    let after = seen_by g.P.Part.seen c.drop_strong.new.seat in
+    let gives = drop_leaves c.in-Ok-Some.next.slot popped after c.drop_strong.ensures.dropped
+    c.drop_strong.ensures.objects in
+    let all = pops_through c.in-Ok-Some.next.slot (seen_by g.P.Part.seen c.args.seat.now)
+    (seen_by g.P.Part.seen c.see_next.new.seat) popped after None gains
+    (ap deeds_in c.see_next.ensures.beside) c.in-Err-popped.ensures.popped gives
+    c.drop_strong.ensures.seen in
+    through_beside g.P.Kind.PayloadKind.fits c.args.domain.now g.P.Part.seen g.P.Part.with_seen
+    (g.D.Deed.next c.args.deed c.args.domain.now.protocol)
+    (g.D.Deed.allows c.args.deed c.args.domain.now.protocol)
+    c.args.field None c.in-Ok-Some.next.slot
+    _ c.args.seat.now c.see_next.new.seat c.pop_node-popped.new.seat c.drop_strong.new.seat
+    c.see_next.ensures.beside_part gains c.in-Err-popped.ensures.beside
+    c.in-Err-popped.ensures.popped.leaves c.drop_strong.ensures.beside gives all.leaves

@@ -1,5 +1,5 @@
-use Rattle.std.proofs.Common.{◌≡◌, ◌∙◌, inl, inr, ap, sym, subst, arith, ◌+◌, ℕ}
-use Rattle.std.specs.Prelude.{None, Option}
+use Rattle.std.proofs.Common.{◌≡◌, ◌∙◌, refl, inl, inr, ap, sym, subst, arith, ◌+◌, ℕ}
+use Rattle.std.specs.Prelude.{None, Option, Some}
 use Rattle.queue_protocol.specs.plain_state.declared.slot.SlotId.{SlotId}
 use Rattle.slot_store.specs.counted_handles.Handles.{Handle}
 use Rattle.part_calls.specs.atomic_shared.Places.{named}
@@ -9,10 +9,12 @@ use Rattle.linked_queue.specs.Leaving.{Leaves, with_found}
 use Rattle.linked_queue.specs.Losses.{LosesNode, LosesWith}
 use Rattle.linked_queue.specs.Pops.{IsWhyLost, TakesWith, adds_of, item_in, popped_too}
 use Rattle.linked_queue.specs.Queues.{deeds_in}
+use Rattle.linked_queue.specs.Readings.{LeavesBeside}
 use Rattle.linked_queue.specs.Seeing.{LoadsItem, MissesItem}
 use Rattle.linked_queue.proofs.Leavings.{drop_leaves, drop_spent}
 use Rattle.linked_queue.proofs.Losings.{few_up, spent_by, why_of, why_up}
 use Rattle.linked_queue.proofs.Poppings.{leaves_on, pops_item, pops_through, some_found}
+use Rattle.linked_queue.proofs.Readings.{beside_same, knows_same, may_on, unread, within}
 use Rattle.linked_queue.proofs.walking.pop_node.Goals as goal
 
 pub returns-in-Err-clause-why : goal.returns-in-Err-clause-why
@@ -158,3 +160,66 @@ returns-in-Err-take_with-clause-spent g c = λ is.
     drop_spent c.in-Ok-Some.item.slot (seen_by g.P.Part.seen c.take_with.new.seat)
     (seen_by g.P.Part.seen c.drop_strong.new.seat) c.drop_strong.ensures.dropped
     (c.in-Err-take_with.ensures.spent is)
+
+pub take_with-requires-clause-deed : goal.take_with-requires-clause-deed
+take_with-requires-clause-deed g c =
+    may_on g.P.Kind.PayloadKind.fits c.args.domain.now g.P.Part.seen g.P.Part.with_seen
+    (g.D.Deed.ready c.args.deed c.args.domain.now.protocol)
+    (g.D.Deed.next c.args.deed c.args.domain.now.protocol) c.args.field c.args.seat.now c.see_item.new.seat
+    c.see_item.ensures.beside_part c.requires.deed
+
+pub returns-in-Err-clause-beside : goal.returns-in-Err-clause-beside
+returns-in-Err-clause-beside g c =
+    unread g.P.Kind.PayloadKind.fits c.args.domain.now g.P.Part.seen g.P.Part.with_seen
+    (g.D.Deed.next c.args.deed c.args.domain.now.protocol)
+    (g.D.Deed.allows c.args.deed c.args.domain.now.protocol)
+    c.args.field c.args.seat.now c.see_item.new.seat c.see_item.ensures.beside_part
+
+pub returns-in-Ok-None-clause-beside : goal.returns-in-Ok-None-clause-beside
+returns-in-Ok-None-clause-beside g c =
+    unread g.P.Kind.PayloadKind.fits c.args.domain.now g.P.Part.seen g.P.Part.with_seen
+    (g.D.Deed.next c.args.deed c.args.domain.now.protocol)
+    (g.D.Deed.allows c.args.deed c.args.domain.now.protocol)
+    c.args.field c.args.seat.now c.see_gone-now.new.seat
+    (c.see_gone-now.ensures.beside_part ∙ c.see_item.ensures.beside_part)
+
+pub returns-in-Ok-clause-beside : goal.returns-in-Ok-clause-beside
+returns-in-Ok-clause-beside g c =
+    let gains = subst (λ (o : Option Handle). Leaves
+    (with_found (named o) c.args.seat.now.view.core.owned) (seen_by g.P.Part.seen c.args.seat.now)
+    (seen_by g.P.Part.seen c.see_item.new.seat))
+    c.in-Ok-Some.field-0-is c.in-Ok-Some.ensures.leaves in
+    let found = Some (c.in-Ok-Some.item.slot, named c.in-Ok.content) in
+    within g.P.Kind.PayloadKind.fits c.args.domain.now g.P.Part.seen g.P.Part.with_seen
+    (g.D.Deed.next c.args.deed c.args.domain.now.protocol)
+    (g.D.Deed.allows c.args.deed c.args.domain.now.protocol)
+    c.args.field found c.args.seat.now c.see_item.new.seat c.take_with.new.seat
+    c.take_with.new.seat
+    (record { same = c.see_item.ensures.beside_part; trail = gains.trail })
+    (subst (λ (s : SlotId). LeavesBeside g.P.Kind.PayloadKind.fits c.args.domain.now
+    g.P.Part.with_seen (g.D.Deed.next c.args.deed c.args.domain.now.protocol)
+    (g.D.Deed.allows c.args.deed c.args.domain.now.protocol) c.args.field
+    (Some (s, named c.in-Ok.content)) c.see_item.new.seat c.take_with.new.seat)
+    c.slot.ensures c.in-Ok.ensures.beside)
+    (beside_same g.P.Part.with_seen c.take_with.new.seat c.take_with.new.seat refl)
+    (knows_same c.in-Ok-Some.item.slot (named c.in-Ok.content) c.take_with.new.seat)
+
+pub returns-in-Err-take_with-clause-beside : goal.returns-in-Err-take_with-clause-beside
+returns-in-Err-take_with-clause-beside g c =
+    let gains = subst (λ (o : Option Handle). Leaves
+    (with_found (named o) c.args.seat.now.view.core.owned) (seen_by g.P.Part.seen c.args.seat.now)
+    (seen_by g.P.Part.seen c.see_item.new.seat))
+    c.in-Ok-Some.field-0-is c.in-Ok-Some.ensures.leaves in
+    let lost = seen_by g.P.Part.seen c.take_with.new.seat in
+    let after = seen_by g.P.Part.seen c.drop_strong.new.seat in
+    let gives = drop_leaves c.in-Ok-Some.item.slot lost after c.drop_strong.ensures.dropped
+    c.drop_strong.ensures.objects in
+    within g.P.Kind.PayloadKind.fits c.args.domain.now g.P.Part.seen g.P.Part.with_seen
+    (g.D.Deed.next c.args.deed c.args.domain.now.protocol)
+    (g.D.Deed.allows c.args.deed c.args.domain.now.protocol)
+    c.args.field None c.args.seat.now c.see_item.new.seat c.take_with.new.seat
+    c.drop_strong.new.seat
+    (record { same = c.see_item.ensures.beside_part; trail = gains.trail })
+    c.in-Err-take_with.ensures.beside
+    (record { same = c.drop_strong.ensures.beside; trail = gives.trail })
+    tt

@@ -1,6 +1,14 @@
 use Rattle.hand_queues.specs.linked_queue.Pops.{both_by}
+use Rattle.hand_queues.specs.queue_law.declared.view.View.{View as QueueView}
+use Rattle.hand_queues.proofs.Below.linked_queue_Readings.{still_reads}
+use Rattle.structure_tests.specs.Ready.{View}
 use Rattle.structure_tests.proofs.Kept.{free_as, popped_with_notes, popped_with_stands}
 use Rattle.structure_tests.proofs.calls.try_pop_with.Goals as goal
+
+pub try_pop_with-requires-clause-deed : goal.try_pop_with-requires-clause-deed
+try_pop_with-requires-clause-deed g c =
+    still_reads (λ (v : View). v.0) (λ (v : View) (w : QueueView). (w, v.1)) c.args.field
+    c.args.seat.now.view.client
 
 pub returns-clause-stands : goal.returns-clause-stands
 returns-clause-stands g c =
