@@ -2,6 +2,7 @@ pub mod Below
 pub mod InRange
 pub mod Steps
 pub mod Calls
+pub mod Entering
 pub mod Contents
 pub mod Few
 pub mod Ending

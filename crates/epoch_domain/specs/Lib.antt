@@ -12,4 +12,5 @@ pub mod Calls
 pub mod Exchanging
 pub mod Openings
 pub mod Leavings
+pub mod Entering
 pub mod Wholes

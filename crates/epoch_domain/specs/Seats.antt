@@ -19,14 +19,14 @@ pub record SeatState (V : Type 0) : Type 0 where
   pub view : EpochSeatView V
   pub room : ℕ
 
--- What a seat stores. The references that it owns, what its region has seen, and the trails stand in its view alone.
+-- What a seat stores. What its region word holds, the references that it owns, what its region has seen, and the trails
+-- stand in its view alone.
 pub record Stored : Type 0 where
   pub number : ℕ
   pub quota : Quota
   pub adds : ℕ
   pub makes : ℕ
   pub phase : EpochPhase
-  pub region : ℕ
   pub pending : List Dated
   pub ended : List SlotId
   pub known : ℕ
@@ -40,7 +40,6 @@ stored v = record {
   adds = v.adds;
   makes = v.makes;
   phase = v.phase;
-  region = v.number;
   pending = v.pending;
   ended = v.dying;
   known = v.known;

@@ -55,7 +55,6 @@ fn new_seat<W>(
         adds: 0,
         makes: 0,
         phase: EpochPhase::Idle,
-        region: 0,
         pending,
         ended,
         known: 0,

@@ -4,6 +4,7 @@ ghost use Rattle.epoch_rule.specs.epoch_core.declared.act.EpochAct.TheVariants a
 ghost use Rattle.epoch_rule.specs.epoch_core.Steps.{May};
 ghost use Rattle.epoch_rule.specs.epoch_core.Views.{epoch_of};
 ghost use Rattle.epoch_domain.specs.Calls.{IsOf, IsSameView, Steps, same_view};
+ghost use Rattle.epoch_domain.specs.Entering.{Opens};
 
 use crate::domain::EpochDomain;
 use crate::places::{EPOCH, region_word};
@@ -16,34 +17,16 @@ use std::marker::Brand;
 const LAST_EPOCH: u64 = 1 << 62;
 
 impl<P: Protocol> EpochDomain<P> {
-    /// Reads the epoch, to open a region.
-    pub fn enter(&self, seat: &mut EpochSeat<P>) -> EpochOutcome
+    /// Opens a region, by two steps: it reads the epoch, and stores it and one in the seat's region word. Between them
+    /// the seat stores nothing else, since each store would be waited for by the second step.
+    pub fn open_region(&self, seat: &mut EpochSeat<P>)
         requires seat { IsOf self.now seat.old }
         requires may { May self.now.shape act.Enter seat.old.view.core }
-        ensures { Steps P.Kind.fits self.now same_view IsSameView act.Enter seat.old seat.new
-            result }
+        ensures { Opens P.Kind.fits self.now seat.old seat.new }
     {
-        let found = self.load_as::<Still, Brand>(&mut seat.seat, EpochAct::Enter, Still, EPOCH);
-        seat.phase = EpochPhase::Entering(found);
-        EpochOutcome::Epoch(found)
-    }
-
-    /// Stores the epoch that was read, and one, in the seat's region word: the region is open.
-    pub fn open(&self, seat: &mut EpochSeat<P>) -> EpochOutcome
-        requires seat { IsOf self.now seat.old }
-        requires may { May self.now.shape act.Open seat.old.view.core }
-        requires small { epoch_of seat.old.view.core.phase + 1 < 2 ^ 64 }
-        ensures { Steps P.Kind.fits self.now same_view IsSameView act.Open seat.old seat.new
-            result }
-    {
-        let EpochPhase::Entering(epoch) = seat.phase else {
-            unreachable!()
-        };
+        let epoch = self.load_as::<Still, Brand>(&mut seat.seat, EpochAct::Enter, Still, EPOCH);
         let word = region_word(seat.number);
         self.store_as::<Still, Brand>(&mut seat.seat, EpochAct::Open, Still, word, epoch + 1);
-        seat.region = epoch + 1;
-        seat.phase = EpochPhase::Idle;
-        EpochOutcome::Plain
     }
 
     /// Stores 0 in the seat's region word: the region is closed.
@@ -55,7 +38,6 @@ impl<P: Protocol> EpochDomain<P> {
     {
         let word = region_word(seat.number);
         self.store_as::<Still, Brand>(&mut seat.seat, EpochAct::Exit, Still, word, 0);
-        seat.region = 0;
         EpochOutcome::Plain
     }
 

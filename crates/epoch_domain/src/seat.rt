@@ -13,8 +13,6 @@ pub struct EpochSeatOf<W> {
     pub(crate) adds: u64,
     pub(crate) makes: u64,
     pub(crate) phase: EpochPhase,
-    /// What its region word holds: 0 outside a region.
-    pub(crate) region: u64,
     pub(crate) pending: Pending,
     pub(crate) ended: Ended,
     /// The epoch that its last flush knew in the end.
@@ -43,7 +41,6 @@ impl<W> Model for EpochSeatOf<W> {
       adds = s.adds;
       makes = s.makes;
       phase = s.phase;
-      region = s.region;
       pending = entries s.pending.queues;
       ended = s.ended.slots;
       known = s.known;

@@ -18,8 +18,7 @@ pub fn enter<P: Protocol>(domain: &EpochDomain<P>, seat: &mut EpochSeat<P>)
     ensures entered { Enters P.Kind.fits domain.now seat.old seat.new }
     ensures rest { IsAtRest domain.now seat.new }
 {
-    domain.enter(seat);
-    domain.open(seat);
+    domain.open_region(seat);
 }
 
 /// Closes the region: the seat forgets what it has seen in it. One event.

@@ -1,9 +1,0 @@
-use Rattle.std.proofs.Common.{refl, arith}
-use Rattle.epoch_rule.specs.epoch_core.declared.act.EpochAct.TheVariants as act
-use Rattle.epoch_domain.proofs.Calls.{call_tells}
-use Rattle.epoch_domain.proofs.domain.EpochDomain.enter.Goals as goal
-
-pub returns : goal.returns
-returns g c =
-    call_tells c.args.self.now _ _ (act.Enter) c.seat.inside.seat c.load_as-found.new.seat c.load_as-found.result c.load_as-found.ensures _ _
-    c.args.seat.now c.seat.view_is _ refl (omega arith)
