@@ -6,7 +6,7 @@ use Rattle.epoch_refs.specs.epoch_core.declared.view.EpochMove.{EpochMove}
 use Rattle.epoch_refs.specs.epoch_core.declared.view.EpochView.{EpochView}
 use Rattle.epoch_refs.specs.epoch_core.Views.{Holds}
 use Rattle.epoch_refs.specs.epoch_domain.Seats.{SeatState}
-use Rattle.cell_calls.specs.Keeping.{GoesOn, Keeps, aside}
+use Rattle.cell_calls.specs.Keeping.{ClaimNone, GoesOn, GoesUnclaimed, Keeps, aside}
 
 pub append_nil : {A : Type 0} (xs : List A) → xs ++ [] ≡ xs
 append_nil [] = refl
@@ -19,6 +19,26 @@ pub goes_then : (u v w : EpochView) → GoesOn u v → GoesOn v w → GoesOn u w
 goes_then u v w first second = (
   first.0 ++ second.0,
   second.1 ∙ ap (λ (t : List EpochMove). t ++ second.0) first.1
+      ∙ append_assoc u.trail first.0 second.0,
+)
+
+-- MOVES THAT CLAIM NOTHING
+pub claim_none_then : (ms ns : List EpochMove) → ClaimNone ms → ClaimNone ns → ClaimNone (ms ++ ns)
+claim_none_then [] ns first second = second
+claim_none_then (m ∷ ms) ns first second = (first.0, claim_none_then ms ns first.1 second)
+
+pub unclaimed_nowhere : (v : EpochView) → GoesUnclaimed v v
+unclaimed_nowhere v = ([], tt, sym (append_nil v.trail))
+
+pub unclaimed_goes : (v w : EpochView) → GoesUnclaimed v w → GoesOn v w
+unclaimed_goes v w goes = (goes.0, goes.2)
+
+pub unclaimed_then : (u v w : EpochView) → GoesUnclaimed u v → GoesUnclaimed v w
+    → GoesUnclaimed u w
+unclaimed_then u v w first second = (
+  first.0 ++ second.0,
+  claim_none_then first.0 second.0 first.1 second.1,
+  second.2 ∙ ap (λ (t : List EpochMove). t ++ second.0) first.2
       ∙ append_assoc u.trail first.0 second.0,
 )
 

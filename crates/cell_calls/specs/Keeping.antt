@@ -1,11 +1,13 @@
 -- What a call leaves of its seat, and how its view of the client grows.
-use Rattle.std.specs.Prelude.{ℕ, ◌≡◌, ◌+◌, ◌≤◌, List, [], ◌++◌}
+use Rattle.std.specs.Prelude.{ℕ, ◌≡◌, ◌+◌, ◌≤◌, Bool, true, false, List, [], ◌∷◌, ◌++◌}
 use Rattle.cell_protocol.specs.cell_law.plain_state.declared.slot.SlotId.{SlotId}
 use Rattle.cell_protocol.specs.cell_law.plain_state.Lists.{times}
 use Rattle.cell_protocol.specs.cell_law.directory_law.declared.view.Rope.{Rope}
 use Rattle.cell_protocol.specs.cell_law.directory_law.Views.{In}
 use Rattle.cell_protocol.specs.cell_law.declared.view.View.{View}
 use Rattle.cell_protocol.specs.cell_law.Walks.{SawAll}
+use Rattle.epoch_refs.specs.epoch_core.declared.act.EpochAct.{EpochAct}
+use Rattle.epoch_refs.specs.epoch_core.declared.act.EpochAct.TheVariants as act
 use Rattle.epoch_refs.specs.epoch_core.declared.view.EpochMove.{EpochMove}
 use Rattle.epoch_refs.specs.epoch_core.declared.view.EpochView.{EpochView}
 use Rattle.epoch_refs.specs.epoch_core.Views.{Holds}
@@ -29,6 +31,20 @@ aside v = record v {
 -- the trail goes on by some moves
 abbrev pub GoesOn : EpochView → EpochView → Type 0
 GoesOn v w = (ms : List EpochMove) × (w.trail ≡ v.trail ++ ms)
+
+-- whether an act tries to take a free slot
+abbrev pub is_claim : EpochAct → Bool
+is_claim (act.Claim s) = true
+is_claim _ = false
+
+-- none of these moves tries to take one
+abbrev pub ClaimNone : List EpochMove → Type 0
+ClaimNone [] = Unit {0}
+ClaimNone (m ∷ ms) = (is_claim m.act ≡ false) × ClaimNone ms
+
+-- the trail goes on by such moves
+abbrev pub GoesUnclaimed : EpochView → EpochView → Type 0
+GoesUnclaimed v w = (ms : List EpochMove) × ClaimNone ms × (w.trail ≡ v.trail ++ ms)
 
 -- Before and after a call the region is open, or closed. The seat owns these references then, in some order. It has
 -- used at most so many makes and adds more. What its region has seen it has seen still. What it has beside is as it

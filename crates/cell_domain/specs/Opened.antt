@@ -1,5 +1,5 @@
 -- A domain that was opened for some work, and its seats.
-use Rattle.std.specs.Prelude.{ℕ, ◌≡◌, ◌<◌, ◌+◌, ◌*◌, ◌^◌, ◌%◌, List, ◌∷◌, length, map, max, slice_index_or}
+use Rattle.std.specs.Prelude.{ℕ, ◌≡◌, ◌<◌, ◌+◌, ◌*◌, ◌^◌, ◌%◌, List, ◌∷◌, length, map, slice_index_or}
 use Rattle.std.specs.List.{range_with_len}
 use Rattle.cell_lanes.specs.Lanes.{lane_tickets}
 use Rattle.cell_lanes.specs.Ready.{IsReady}
@@ -31,9 +31,9 @@ abbrev pub by_lane : (List (List ℕ) → ℕ) → Work → ℕ → List ℕ
 by_lane f work lanes = map (λ i. f (lane_words work lanes i)) (range_with_len 0 lanes)
 
 -- THE DOMAIN
--- a cell for each piece of all rounds, and at least one
+-- two cells for each piece of all rounds, and one more
 abbrev pub cells_for : Work → ℕ
-cells_for work = max (work.rounds * all_pieces work) 1
+cells_for work = 2 * (work.rounds * all_pieces work) + 1
 
 abbrev pub shape_for : Work → ℕ → ℕ → EpochShape
 shape_for work lanes slots = record { seats = lanes + 1; slots = slots; cells = cells_for work }

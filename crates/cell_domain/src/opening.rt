@@ -12,6 +12,10 @@ use epoch_refs::{EpochShape, OpenError, open_epoch};
 use lane_work::{OutOfMemory, Work, count_pieces};
 use std::alloc::Global;
 
+/// How many cells a head has that lanes may bind: with one for each, cells of words that all differ end up full, and walks
+/// along them are long.
+const CELLS_FOR_EACH: u64 = 2;
+
 /// Opens a domain for the work, with so many lanes and slots. Its cells hold the records of all words. The seat of a
 /// lane may bind a head for each piece of the lane's files in all rounds, and make each slot of their records; seat 0
 /// may do neither. Each seat may use 2^40 adds.
@@ -27,7 +31,7 @@ pub fn open_cells(alloc: Global, work: &Work, lanes: u32, slots: u32) -> Result<
     ensures root { IfOk result (λ opened. IsNewRoot opened.domain opened.root) }
     ensures seats { IfOk result (λ opened. AreLanes opened.domain lanes opened.seats.items) }
 {
-    let cells = (work.rounds * count_pieces(work)).max(1) as u32;
+    let cells = (CELLS_FOR_EACH * (work.rounds * count_pieces(work)) + 1) as u32;
     let shape = EpochShape {
         seats: lanes + 1,
         slots,

@@ -24,7 +24,7 @@ use Rattle.epoch_domain.proofs.Below.core_law_Kit.{one_same, times_push, times_w
 use Rattle.cell_making.specs.Bindings.{HasHead}
 use Rattle.cell_making.specs.Making.{HasMade, candidate_in}
 use Rattle.cell_making.proofs.Heads.{head_stays, made_notes}
-use Rattle.cell_making.proofs.Kept.{drop_back, drop_keeps}
+use Rattle.cell_making.proofs.Kept.{drop_back, drop_keeps, drop_unclaimed}
 use Rattle.cell_making.proofs.Owned.{holds_on, keeps_dropped}
 use Rattle.cell_finding.specs.Finding.{IsOnWalk}
 use Rattle.cell_finding.proofs.Walking.{walk_kept}
@@ -236,4 +236,4 @@ module _ (d : DomainState CellLaw) (fits : List ℕ → Type 0) (text : Text) (h
           placed_why error why =
               why_on d error (without h placed.view.core.owned) old placed next
               (why_after d error n (n + 1) (made.view.core.owned ++ h ∷ []) old copied placed both why)
-              dropped
+              dropped (drop_unclaimed fits d placed next h o drop)

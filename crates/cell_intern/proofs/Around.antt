@@ -1,9 +1,9 @@
 -- Calls in a region, between its opening and its closing.
-use Rattle.std.proofs.Common.{◌≡◌, ℕ, ◌<◌, ◌≤◌, List, [], ◌∷◌, ap, sym, ◌∙◌, subst, arith}
+use Rattle.std.proofs.Common.{◌≡◌, ℕ, ◌<◌, ◌≤◌, List, [], ◌∷◌, refl, ap, sym, ◌∙◌, subst, arith}
 use Rattle.std.specs.Prelude.{Result}
 use Rattle.cell_making.specs.counted_handles.Handles.{Handle}
-use Rattle.cell_calls.specs.Keeping.{GoesOn, Keeps, aside}
-use Rattle.cell_calls.proofs.Keeping.{goes_then}
+use Rattle.cell_calls.specs.Keeping.{GoesOn, GoesUnclaimed, Keeps, aside}
+use Rattle.cell_calls.proofs.Keeping.{goes_then, unclaimed_goes}
 use Rattle.cell_calls.specs.cell_law.plain_state.declared.slot.SlotId.{SlotId}
 use Rattle.cell_calls.specs.cell_law.plain_state.Lists.{times}
 use Rattle.epoch_refs.specs.epoch_core.declared.act.EpochAct.TheVariants as act
@@ -69,8 +69,9 @@ module _ {P V : Type 0} (fits : List ℕ → Type 0) (d : DomainState P) (old a 
 
   module _ (b new : SeatState V)
       (exits : Steps fits d same_view IsSameView act.Exit b new outcome.Plain) where
-    pub goes_out : GoesOn b.view.core new.view.core
-    goes_out = (move act.Exit outcome.Plain ∷ [], ap (λ (v : EpochView). v.trail) exits.told.core)
+    pub goes_out : GoesUnclaimed b.view.core new.view.core
+    goes_out =
+        (move act.Exit outcome.Plain ∷ [], (refl, tt), ap (λ (v : EpochView). v.trail) exits.told.core)
 
     pub around_keeps : (m n : ℕ) (xs : List SlotId) → Keeps m n xs a b → Keeps m n xs old new
     around_keeps m n xs keeps =
@@ -94,7 +95,8 @@ module _ {P V : Type 0} (fits : List ℕ → Type 0) (d : DomainState P) (old a 
               ∙ (ap (λ (v : EpochView). record (aside v) { number = 0 }) first
               ∙ (λ i. record (aside old.view.core) { number = sym outside i })));
           goes = goes_then old.view.core a.view.core new.view.core goes_in
-              (goes_then a.view.core b.view.core new.view.core keeps.goes goes_out);
+              (goes_then a.view.core b.view.core new.view.core keeps.goes
+              (unclaimed_goes b.view.core new.view.core goes_out));
           knows = λ x before after.
               let owned = owned_only x before in
               let in_b : 0 < times x b.view.core.owned =

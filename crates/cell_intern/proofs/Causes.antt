@@ -5,8 +5,8 @@ use Rattle.epoch_refs.specs.epoch_core.core_events.declared.shape.Quota.{Quota}
 use Rattle.cell_making.specs.Making.{IsCause}
 use Rattle.cell_making.specs.declared.refusals.RecordError.{RecordError}
 use Rattle.cell_making.specs.declared.refusals.RecordError.TheVariants as unmade
-use Rattle.cell_calls.specs.Keeping.{GoesOn, Keeps}
-use Rattle.cell_calls.proofs.Keeping.{goes_then}
+use Rattle.cell_calls.specs.Keeping.{GoesOn, GoesUnclaimed, Keeps}
+use Rattle.cell_calls.proofs.Keeping.{goes_then, unclaimed_then}
 use Rattle.cell_calls.specs.cell_law.declared.view.View.{View}
 use Rattle.cell_calls.specs.cell_law.plain_state.declared.slot.SlotId.{SlotId}
 use Rattle.cell_calls.specs.cell_protocol.declared.law.CellLaw.{CellLaw}
@@ -37,22 +37,23 @@ no_make_on n xs old new keeps none =
 module _ (d : DomainState CellLaw) where
   -- after calls that used nothing
   pub why_on : (error : InternError) (xs : List SlotId) (a b c : SeatState View)
-      → IsWhy d error a b → Keeps 0 0 xs b c → IsWhy d error a c
-  why_on refused.MakesSpent xs a b c why keeps = no_make_on 0 xs b c keeps why
-  why_on refused.AddsSpent xs a b c why keeps = spent_on 0 xs b c keeps why
-  why_on refused.Full xs a b c why keeps = record {
+      → IsWhy d error a b → Keeps 0 0 xs b c → GoesUnclaimed b.view.core c.view.core
+      → IsWhy d error a c
+  why_on refused.MakesSpent xs a b c why keeps goes = no_make_on 0 xs b c keeps why
+  why_on refused.AddsSpent xs a b c why keeps goes = spent_on 0 xs b c keeps why
+  why_on refused.Full xs a b c why keeps goes = record {
     mid = why.mid;
     late = why.late;
     misses = why.misses;
     since = why.since;
-    till = goes_then why.late.view.core b.view.core c.view.core why.till keeps.goes;
+    till = unclaimed_then why.late.view.core b.view.core c.view.core why.till goes;
     fit =
         let fit = why.fit in
         let used = keeps.makes_used.0 in
         let n = ap (λ (v : EpochView). v.quota.makes) keeps.same in
         omega (arith, fit, used, n);
   }
-  why_on refused.OutOfMemory xs a b c why keeps = tt
+  why_on refused.OutOfMemory xs a b c why keeps goes = tt
 
   -- and before it
   pub why_after : (error : InternError) (m n : ℕ) (xs : List SlotId) (a b c : SeatState View)
@@ -80,7 +81,7 @@ module _ (d : DomainState CellLaw) where
   -- where the seat has used as much in the end
   pub why_by : (error : InternError) (a b c : SeatState View) → IsWhy d error a b
       → c.view.core.makes ≡ b.view.core.makes → c.view.core.adds ≡ b.view.core.adds
-      → c.view.core.quota ≡ b.view.core.quota → GoesOn b.view.core c.view.core
+      → c.view.core.quota ≡ b.view.core.quota → GoesUnclaimed b.view.core c.view.core
       → IsWhy d error a c
   why_by refused.MakesSpent a b c why makes adds quota goes =
       makes ∙ (why ∙ ap (λ (q : Quota). q.makes) (sym quota))
@@ -91,7 +92,7 @@ module _ (d : DomainState CellLaw) where
     late = why.late;
     misses = why.misses;
     since = why.since;
-    till = goes_then why.late.view.core b.view.core c.view.core why.till goes;
+    till = unclaimed_then why.late.view.core b.view.core c.view.core why.till goes;
     fit =
         let fit = why.fit in
         let n = ap (λ (q : Quota). q.makes) quota in
@@ -123,7 +124,7 @@ module _ (d : DomainState CellLaw) where
   pub why_by_if : {T : Type 0} (r : Result T InternError) (a b c : SeatState View)
       → IfErr r (λ e. IsWhy d e a b)
       → c.view.core.makes ≡ b.view.core.makes → c.view.core.adds ≡ b.view.core.adds
-      → c.view.core.quota ≡ b.view.core.quota → GoesOn b.view.core c.view.core
+      → c.view.core.quota ≡ b.view.core.quota → GoesUnclaimed b.view.core c.view.core
       → IfErr r (λ e. IsWhy d e a c)
   why_by_if (Ok x) a b c why makes adds quota goes = tt
   why_by_if (Err e) a b c why makes adds quota goes = why_by e a b c why makes adds quota goes

@@ -3,7 +3,7 @@ use Rattle.std.proofs.Common.{◌≡◌, ℕ, ◌+◌, ◌<◌, ◌≤◌, Bool,
 use Rattle.std.specs.Prelude.{◌==◌, if◌then◌else◌}
 use Rattle.cell_calls.specs.cell_law.plain_state.declared.slot.SlotId.{SlotId}
 use Rattle.cell_calls.specs.cell_law.plain_state.Lists.{times}
-use Rattle.cell_calls.specs.Keeping.{GoesOn, Keeps, aside}
+use Rattle.cell_calls.specs.Keeping.{GoesOn, GoesUnclaimed, Keeps, aside}
 use Rattle.cell_calls.proofs.Keeping.{append_nil}
 use Rattle.epoch_refs.specs.plain_protocol.Owns.{OwnPart}
 use Rattle.epoch_refs.specs.plain_protocol.plain_state.State.{Plain}
@@ -140,6 +140,27 @@ module _ {P V : Type 0} (fits : List ℕ → Type 0) (d : DomainState P) (old ne
           (record old.view.core { owned = without s old.view.core.owned })
           (move (act.Drop s) said ∷ []) core refl (omega arith) (omega arith) refl
           (λ x before after. step.told.objects x (held_has x old.view.core before))
+
+  -- no slot is tried then
+  pub drop_unclaimed : (s : SlotId) (o : EpochOutcome)
+      → Steps fits d same_view IsSameView (act.Drop s) old new o
+      → GoesUnclaimed old.view.core new.view.core
+  drop_unclaimed s o step = go (step.word == 1) _ step.told.core
+    where
+      go : (b : Bool) (said : EpochOutcome)
+          → new.view.core
+          ≡ noted (act.Drop s) said
+          (if b
+          then record old.view.core {
+            owned = without s old.view.core.owned;
+            dying = old.view.core.dying ++ s ∷ [];
+          }
+          else record old.view.core { owned = without s old.view.core.owned })
+          → GoesUnclaimed old.view.core new.view.core
+      go true said core =
+          (move (act.Drop s) said ∷ [], (refl, tt), ap (λ (v : EpochView). v.trail) core)
+      go false said core =
+          (move (act.Drop s) said ∷ [], (refl, tt), ap (λ (v : EpochView). v.trail) core)
 
   -- and what the seat holds it held
   pub drop_back : (s : SlotId) (o : EpochOutcome) → 0 < times s old.view.core.owned

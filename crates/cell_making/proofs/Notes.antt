@@ -9,8 +9,8 @@ use Rattle.cell_calls.specs.cell_law.directory_law.Views.{In, is_of, rope}
 use Rattle.cell_calls.specs.cell_law.directory_law.Views.{without as without_note}
 use Rattle.cell_calls.specs.cell_law.declared.view.View.{View}
 use Rattle.cell_calls.specs.cell_protocol.declared.law.CellLaw.{CellLaw}
-use Rattle.cell_calls.specs.Keeping.{GoesOn, Keeps, NotesOnly}
-use Rattle.cell_calls.proofs.Keeping.{goes_then}
+use Rattle.cell_calls.specs.Keeping.{GoesOn, GoesUnclaimed, Keeps, NotesOnly}
+use Rattle.cell_calls.proofs.Keeping.{goes_then, unclaimed_then}
 use Rattle.epoch_refs.specs.epoch_core.core_events.declared.shape.Quota.{Quota}
 use Rattle.epoch_refs.specs.epoch_core.declared.view.EpochView.{EpochView}
 use Rattle.epoch_refs.specs.epoch_domain.Domains.{DomainState}
@@ -88,23 +88,24 @@ module _ (d : DomainState CellLaw) where
 
   -- and while no make and no add is used
   pub cause_on : (error : RecordError) (xs : List SlotId) (a b c : SeatState View)
-      → Keeps 0 0 xs b c → IsCause d error a b → IsCause d error a c
-  cause_on refused.MakesSpent xs a b c keeps is =
+      → Keeps 0 0 xs b c → GoesUnclaimed b.view.core c.view.core → IsCause d error a b
+      → IsCause d error a c
+  cause_on refused.MakesSpent xs a b c keeps goes is =
       let m = keeps.makes_used in
       let q : c.view.core.quota ≡ b.view.core.quota = ap (λ (v : EpochView). v.quota) keeps.same in
       let n = ap (λ (x : Quota). x.makes) q in
       omega (arith, m.0, m.1, n, is)
-  cause_on refused.AddsSpent xs a b c keeps is =
+  cause_on refused.AddsSpent xs a b c keeps goes is =
       let m = keeps.adds_used in
       let q : c.view.core.quota ≡ b.view.core.quota = ap (λ (v : EpochView). v.quota) keeps.same in
       let n = ap (λ (x : Quota). x.adds) q in
       omega (arith, m.0, m.1, n, is)
-  cause_on refused.Full xs a b c keeps is = record {
+  cause_on refused.Full xs a b c keeps goes is = record {
     mid = is.mid;
     late = is.late;
     misses = is.misses;
     since = is.since;
-    till = goes_then is.late.view.core b.view.core c.view.core is.till keeps.goes;
+    till = unclaimed_then is.late.view.core b.view.core c.view.core is.till goes;
     fit =
         let fit = is.fit in
         let used = keeps.makes_used.0 in
@@ -113,7 +114,7 @@ module _ (d : DomainState CellLaw) where
         let n = ap (λ (x : Quota). x.makes) q in
         omega (arith, fit, used, n);
   }
-  cause_on refused.OutOfMemory xs a b c keeps is = tt
+  cause_on refused.OutOfMemory xs a b c keeps goes is = tt
 
   pub refused_after : (error : RecordError) (a b c : SeatState View)
       → GoesOn a.view.core b.view.core → NotesOnly a.view.client b.view.client
@@ -124,10 +125,10 @@ module _ (d : DomainState CellLaw) where
   }
 
   pub refused_on : (error : RecordError) (xs : List SlotId) (a b c : SeatState View)
-      → Keeps 0 0 xs b c → c.view.client ≡ b.view.client → IsRefused d error a b
-      → IsRefused d error a c
-  refused_on error xs a b c keeps same is = record {
-    cause = cause_on error xs a b c keeps is.cause;
+      → Keeps 0 0 xs b c → GoesUnclaimed b.view.core c.view.core → c.view.client ≡ b.view.client
+      → IsRefused d error a b → IsRefused d error a c
+  refused_on error xs a b c keeps goes same is = record {
+    cause = cause_on error xs a b c keeps goes is.cause;
     client = only_then a.view.client b.view.client c.view.client is.client
         (only_none b.view.client c.view.client same);
   }

@@ -9,7 +9,7 @@ use Rattle.cell_calls.specs.cell_law.directory_law.Payloads.{Text, IsPart}
 use Rattle.cell_calls.specs.cell_law.directory_law.Views.{In, rope}
 use Rattle.cell_calls.specs.cell_law.declared.view.View.{View}
 use Rattle.cell_calls.specs.cell_protocol.declared.law.CellLaw.{CellLaw}
-use Rattle.cell_calls.specs.Keeping.{GoesOn, NotesOnly}
+use Rattle.cell_calls.specs.Keeping.{GoesOn, GoesUnclaimed, NotesOnly}
 use Rattle.epoch_refs.specs.epoch_core.core_events.Views.{without}
 use Rattle.epoch_refs.specs.epoch_rule.Views.{object_in}
 use Rattle.epoch_refs.specs.epoch_domain.Domains.{DomainState}
@@ -110,14 +110,14 @@ Links t s old new =
     new.view.client
 
 -- REFUSALS
--- Between two states of the call each slot of the domain was found taken; and there are no more slots than the makes
--- that this seat has used by the return and those that all other seats were given.
+-- Between two states of the call each slot of the domain was found taken, and no slot was tried after that; and there
+-- are no more slots than the makes that this seat has used by the return and those that all other seats were given.
 pub record MissesWithin (d : DomainState CellLaw) (old new : SeatState View) : Type 0 where
   pub mid : SeatState View
   pub late : SeatState View
   pub misses : IsFull IsPiece d mid late
   pub since : GoesOn old.view.core mid.view.core
-  pub till : GoesOn late.view.core new.view.core
+  pub till : GoesUnclaimed late.view.core new.view.core
   pub fit : SlotsFitMakes d new.view.core
 
 -- what is so where a make was refused

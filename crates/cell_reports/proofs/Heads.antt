@@ -4,8 +4,8 @@ use Rattle.std.proofs.Common.{◌≡◌, inl, inr, ⊎_elim, ℕ, zero, suc, Lis
 use Rattle.std.specs.Prelude.{None, Option, Some}
 use Rattle.std.specs.List.{flat_map}
 use Rattle.cell_calls.specs.Cells.{area_of}
-use Rattle.cell_calls.specs.Keeping.{GoesOn}
-use Rattle.cell_calls.proofs.Keeping.{goes_then}
+use Rattle.cell_calls.specs.Keeping.{GoesUnclaimed}
+use Rattle.cell_calls.proofs.Keeping.{unclaimed_then}
 use Rattle.cell_law.specs.Law.{CellLaw as Law}
 use Rattle.cell_law.specs.Views.{AreDistinct, all_bound, bound_in, gone, texts_of, view_at}
 use Rattle.cell_law.specs.declared.view.View.{View}
@@ -84,18 +84,19 @@ module _ (d : DomainState CellLaw) (p : EventPlace) (old opened looked new : Sea
   core = back d.shape p old.view.core opened.view.core looked.view.core new.view.core _ looks.word
       exits.word _ enters.core looks.told.core exits.told.core free.outside none_seen
 
-  goes : GoesOn old.view.core new.view.core
+  goes : GoesUnclaimed old.view.core new.view.core
   goes =
       let found : EpochMove = move (act.Look p) (outcome.Found (slot_in looks.word)) in
-      goes_then old.view.core opened.view.core new.view.core
-      (_, ap (λ (v : EpochView). v.trail) enters.core)
-      (goes_then opened.view.core looked.view.core new.view.core (
+      unclaimed_then old.view.core opened.view.core new.view.core
+      (_, (refl, (refl, tt)), ap (λ (v : EpochView). v.trail) enters.core)
+      (unclaimed_then opened.view.core looked.view.core new.view.core (
         found ∷ [],
+        (refl, tt),
         ap (λ (v : EpochView). v.trail) looks.told.core
             ∙ ap (λ (t : List EpochMove). t ++ found ∷ [])
             (saw_trail (slot_in looks.word) opened.view.core),
       )
-      (_, ap (λ (v : EpochView). v.trail) exits.told.core))
+      (_, (refl, tt), ap (λ (v : EpochView). v.trail) exits.told.core))
 
   client_inside : opened.view.client ≡ old.view.client
   client_inside =

@@ -10,6 +10,7 @@ use Rattle.cell_domain.specs.cell_lanes.cell_calls.cell_protocol.declared.law.Ce
 use Rattle.cell_domain.specs.cell_lanes.declared.refusal.LaneStop.{LaneStop}
 use Rattle.cell_domain.specs.cell_lanes.declared.refusal.LaneStop.TheVariants as stopped
 use Rattle.cell_domain.specs.declared.ending.LaneEnd.{LaneEnd}
+use Rattle.cell_calls.proofs.Keeping.{claim_none_then}
 use Rattle.cell_domain.proofs.Alone.{one_lacks}
 use Rattle.cell_domain.proofs.Enough.{makes_left, slots_lacked, stops_with}
 use Rattle.cell_domain.proofs.Numbers.{many}
@@ -76,10 +77,11 @@ module _ (work : Work) (lanes slots i : ℕ) (d : DomainState CellLaw) (seat : S
             few = full.few ∙ same;
             front = misses.mid.view.core.trail;
             back = misses.till.0 ++ learns.goes.0;
+            last = claim_none_then misses.till.0 learns.goes.0 misses.till.1 learns.goes.1;
             trail =
-                learns.goes.1
+                learns.goes.2
                 ∙ ap (λ (t : List EpochMove). t ++ learns.goes.0)
-                (misses.till.1
+                (misses.till.2
                 ∙ ap (λ (v : EpochView). v.trail ++ misses.till.0) full.misses.goes.core)
                 ∙ append_assoc (misses.mid.view.core.trail ++ taken_by tries) misses.till.0
                 learns.goes.0

@@ -2,7 +2,7 @@
 use Rattle.std.specs.Prelude.{◌≡◌, ◌⊎◌, List, [], ◌∷◌, ◌++◌, Ok, Err}
 use Rattle.cell_domain.specs.declared.ending.LaneEnd.{LaneEnd}
 use Rattle.cell_domain.specs.cell_lanes.Ready.{IsReady}
-use Rattle.cell_domain.specs.cell_lanes.cell_calls.Keeping.{GoesOn}
+use Rattle.cell_domain.specs.cell_lanes.cell_calls.Keeping.{GoesUnclaimed}
 use Rattle.cell_domain.specs.cell_lanes.cell_calls.cell_law.Views.{AreDistinct, texts_of}
 use Rattle.cell_domain.specs.cell_lanes.cell_calls.cell_law.declared.view.View.{View}
 use Rattle.cell_domain.specs.cell_lanes.cell_calls.cell_protocol.declared.law.CellLaw.{CellLaw}
@@ -26,12 +26,12 @@ AllRan [] (one ∷ done) = ⊥
 AllRan (ended ∷ ends) [] = ⊥
 AllRan (ended ∷ ends) (one ∷ done) = RanToEnd ended one × AllRan ends done
 
--- The seat has learnt that the heads that it put into cells have different texts. Its trail goes on, and nothing else
--- has changed of what it has and what its view tells.
+-- The seat has learnt that the heads that it put into cells have different texts. Its trail goes on, by no claim of a slot,
+-- and nothing else has changed of what it has and what its view tells.
 pub record LearnsHeads (old new : SeatState View) : Type 0 where
   pub table : new.table ≡ old.table
   pub core : new.view.core ≡ record old.view.core { trail = new.view.core.trail }
-  pub goes : GoesOn old.view.core new.view.core
+  pub goes : GoesUnclaimed old.view.core new.view.core
   pub client : new.view.client ≡ old.view.client
   pub heads : AreDistinct (texts_of new.view.client.bound)
 

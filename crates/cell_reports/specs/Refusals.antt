@@ -1,6 +1,7 @@
 -- Why nothing was counted.
 use Rattle.std.specs.Prelude.{ℕ, ◌≡◌, ◌≢◌, ◌<◌, ◌*◌, ◌^◌, ◌++◌, All, List, length}
 use Rattle.cell_domain.specs.Opened.{IsDomainFor}
+use Rattle.cell_domain.specs.cell_lanes.cell_calls.Keeping.{ClaimNone}
 use Rattle.cell_domain.specs.cell_lanes.cell_calls.cell_law.declared.view.View.{View}
 use Rattle.cell_domain.specs.cell_lanes.cell_calls.cell_law.plain_state.declared.slot.SlotId.{SlotId}
 use Rattle.cell_domain.specs.cell_lanes.cell_calls.cell_law.plain_state.Lists.{times}
@@ -27,7 +28,7 @@ pub record HasSpentAll (work : Work) (lanes slots : ℕ) (seat : SeatState View)
   pub spent : IsSpent seat.view.core
 
 -- The seat's trail shows a search that claimed all of so many slots, one after another, each once, and found each of
--- them taken: by a count word that isn't that of a free slot.
+-- them taken: by a count word that isn't that of a free slot. It is the seat's last try to make anything.
 pub record ShowsAllTaken (slots : ℕ) (seat : SeatState View) : Type 0 where
   pub tries : List Try
   pub words : All (λ t. t.word ≢ free_word) tries
@@ -36,6 +37,7 @@ pub record ShowsAllTaken (slots : ℕ) (seat : SeatState View) : Type 0 where
   pub front : List EpochMove
   pub back : List EpochMove
   pub trail : seat.view.core.trail ≡ front ++ (taken_by tries ++ back)
+  pub last : ClaimNone back
 
 -- In a domain for this work a seat found each slot taken, as its own trail shows. There are fewer slots than the
 -- records of all pieces in all rounds have, if no two pieces share one. With one lane there are fewer than the records

@@ -1,8 +1,8 @@
-use Rattle.std.proofs.Common.{rules, ◌≡◌, ◌*◌, Err, ap, subst, sym, ◌∙◌}
-use Rattle.std.specs.Prelude.{max}
+use Rattle.std.proofs.Common.{rules, arith, ◌≡◌, ◌*◌, ◌+◌, Err, ap, subst, sym, ◌∙◌}
 use Rattle.cell_lanes.specs.cell_calls.Cells.{area_of}
 use Rattle.cell_lanes.specs.cell_calls.cell_law.Owned.{first_view}
 use Rattle.cell_lanes.specs.cell_calls.cell_protocol.declared.law.CellLaw.{CellLaw}
+use Rattle.cell_lanes.specs.lane_work.Sizes.{all_pieces}
 use Rattle.epoch_refs.specs.epoch_core.Runs.{IsShape}
 use Rattle.epoch_refs.specs.epoch_domain.Domains.{DomainState}
 use Rattle.epoch_refs.specs.epoch_domain.Openings.{AreOpened}
@@ -28,10 +28,13 @@ returns-in-Ok-clause-seats c =
 pub unreachable-requires : goal.unreachable-requires
 unreachable-requires c =
     let work = c.args.work.now in
-    let cells : c.max-cells.result ≡ cells_for work =
-    c.max-cells.ensures ∙ ap (λ n. max (work.rounds * n) 1) c.count_pieces.ensures in
+    let same : work.rounds * c.count_pieces.result ≡ work.rounds * all_pieces work =
+    ap (λ n. work.rounds * n) c.count_pieces.ensures in
+    let cells : 2 * (work.rounds * c.count_pieces.result) + 1 ≡ cells_for work = omega (arith, same)
+    in
     none_bad_by work c.requires.within c.args.lanes c.args.slots c.requires.lanes.0
-    c.requires.lanes.1 c.requires.slots.0 c.requires.slots.1 c.max-cells.result
+    c.requires.lanes.1 c.requires.slots.0 c.requires.slots.1
+    (2 * (work.rounds * c.count_pieces.result) + 1)
     c.deref.result.now cells (c.deref.ensures.value ∙ c.in_ok-quotas.ensures)
     c.in-Err-BadShape.field-0-0
     ((c.open_epoch.ensures.bad c.in-Err-BadShape.field-0-0).0

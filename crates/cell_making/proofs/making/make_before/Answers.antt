@@ -5,7 +5,7 @@ use Rattle.cell_making.proofs.Before.{before_if, has_two}
 use Rattle.cell_making.proofs.Events.{drop_event}
 use Rattle.cell_making.proofs.Fewer.{fewer_if, fewer_on}
 use Rattle.cell_making.proofs.Given.{one_dropped}
-use Rattle.cell_making.proofs.Kept.{drop_client, drop_keeps}
+use Rattle.cell_making.proofs.Kept.{drop_client, drop_keeps, drop_unclaimed}
 use Rattle.cell_making.proofs.Notes.{only_by, refused_if, refused_on}
 use Rattle.cell_making.proofs.Owned.{keeps_before}
 use Rattle.cell_making.proofs.making.make_before.Goals as goal
@@ -41,6 +41,8 @@ returns-in-Err-clause-refused c =
     (without c.args.rest.slot c.make_slot.new.seat.view.core.owned)
     c.args.seat.now c.make_slot.new.seat c.e_drop.new.seat
     (drop_keeps IsPiece c.args.domain.now c.make_slot.new.seat c.e_drop.new.seat
+    c.args.rest.slot c.e_drop.ensures.dropped.0 c.e_drop.ensures.dropped.1)
+    (drop_unclaimed IsPiece c.args.domain.now c.make_slot.new.seat c.e_drop.new.seat
     c.args.rest.slot c.e_drop.ensures.dropped.0 c.e_drop.ensures.dropped.1)
     (drop_client IsPiece c.args.domain.now c.make_slot.new.seat c.e_drop.new.seat
     c.args.rest.slot c.e_drop.ensures.dropped.0 c.e_drop.ensures.dropped.1)
