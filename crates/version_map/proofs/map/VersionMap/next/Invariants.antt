@@ -1,0 +1,5 @@
+use Rattle.version_map.proofs.Again.{HasTried}
+use Rattle.version_map.proofs.map.VersionMap.next.Given as goal
+
+abbrev pub invariant-loop-try : goal.invariant-loop-try
+invariant-loop-try g l = HasTried l.domain l.fn.seat l.seat

@@ -1,0 +1,4 @@
+-- What callers cite of the crates below.
+pub use Rattle.version_reading.specs as version_reading
+-- Its own.
+pub mod Maps

@@ -1,0 +1,10 @@
+pub mod Learning
+pub mod Events
+pub mod Releasing
+pub mod Holding
+pub mod Leading
+pub mod Words
+pub mod Walking
+pub mod Rooting
+pub mod LastLook
+pub mod Searches
