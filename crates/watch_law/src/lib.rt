@@ -12,7 +12,7 @@
 //! a delivery is to one observer (`pushed_deliveries_have_observers`), and once seat 0 is alone its view tells to whom
 //! (`the_root_knows_all`).
 //!
-//! Nothing here runs, no call stands on it yet, and no step is promised to come.
+//! Nothing here runs, and no step is promised to come.
 //!
 //! ```text
 //! law: WatchLaw (area first cells owners) p views

@@ -8,8 +8,7 @@
 //! and no other strong cell the observers'. Deeds of the queue and on observers are deeds of it, by `InPart`: a push
 //! besides asks that the seat gave the delivery its observer.
 //!
-//! Nothing here runs, no call stands on it yet, and no step is promised to come. A deed doesn't say that the step that
-//! it goes with succeeds.
+//! Nothing here runs, and no step is promised to come. A deed doesn't say that the step that it goes with succeeds.
 //!
 //! ```text
 //! let watch = WatchLaw::over(0, 3, owners);           // the weak cells 0 to 2 are those of the ids 0 to 2

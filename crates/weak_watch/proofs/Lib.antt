@@ -1,0 +1,14 @@
+pub mod Below
+pub mod Found
+pub mod Keeping
+pub mod Made
+pub mod Tried
+pub mod Delivered
+pub mod Addressed
+pub mod Pushed
+pub mod Sent
+pub mod Published
+pub mod Growing
+pub mod Taken
+pub mod Noted
+pub mod Received
