@@ -248,7 +248,29 @@ module _ (z : Shape) (c : Core) (so : Sound z c) (s : SlotId) (h : s.0 < z.slots
           ∙ ap (λ (n : ℕ). each_from 0 16 (λ k. slice_index c.words (n + 5 + k))) is) i;
     }) ∙ sym image_words
 
--- words that are read from the first of the cells on, with the images of all slots, make the image
+-- as many slots are shown as there are
+pub slots_shown : (z : Shape) (c : Core) → length (shows z c).slots ≡ z.slots
+slots_shown z c = length_each 0 z.slots (λ x. show_slot z c (record { 0 = x }))
+
+-- words that are read from the first of the cells on are those of the cells
+module _ (z : Shape) (c : Core) (words : List ℕ) (first : ℕ) where
+  pub cell_words : words ≡ each_from 0 z.cells (λ i. slice_index c.words (first + i))
+      → first ≡ cell_at z 0 → words ≡ map word_of (shows z c).cells
+  cell_words cells first_is = cells
+      ∙ (each_same z.cells (λ i. slice_index c.words (cell_at z i))
+      (λ i. slice_index c.words (first + i))
+      (λ i h. let e : first + i ≡ cell_at z i = omega arith in ap (slice_index c.words) e)
+      ∙ sym (words_held (λ i. slice_index c.words (cell_at z i)) 0 z.cells))
+
+  pub weak_cell_words : words ≡ each_from 0 z.weak_cells (λ i. slice_index c.words (first + i))
+      → first ≡ weak_cell_at z 0 → words ≡ map word_of (shows z c).weak_cells
+  weak_cell_words weak_cells first_is = weak_cells
+      ∙ (each_same z.weak_cells (λ i. slice_index c.words (weak_cell_at z i))
+      (λ i. slice_index c.words (first + i))
+      (λ i h. let e : first + i ≡ weak_cell_at z i = omega arith in ap (slice_index c.words) e)
+      ∙ sym (words_held (λ i. slice_index c.words (weak_cell_at z i)) 0 z.weak_cells))
+
+-- with the images of all slots, these words make the image
 pub heap_words : (z : Shape) (c : Core) (heap : Heap) (first weak_first : ℕ)
     → heap.slots.items ≡ each_from 0 z.slots (λ x. image_at (shows z c) (record { 0 = x }))
     → heap.cells.items ≡ each_from 0 z.cells (λ i. slice_index c.words (first + i))
@@ -257,26 +279,16 @@ pub heap_words : (z : Shape) (c : Core) (heap : Heap) (first weak_first : ℕ)
     → weak_first ≡ weak_cell_at z 0
     → heap.deferred.items ≡ (seat_at (shows z c) 0).deferred → IsImage (shows z c) heap
 heap_words z c heap first weak_first slots cells first_is weak_cells weak_is deferred = record {
-  size = ap length slots ∙ length_each 0 z.slots image ∙ sym size;
+  size = ap length slots ∙ length_each 0 z.slots image ∙ sym (slots_shown z c);
   slots = λ s h.
       let at : 0 + s.0 ≡ s.0 = omega arith in
       ap (λ (xs : List SlotImage). get_or xs s.0 free_image) slots
-      ∙ (get_each 0 z.slots s.0 image free_image (let n = size in omega arith) ∙ ap image at);
-  cells = cells
-      ∙ (each_same z.cells (λ i. slice_index c.words (cell_at z i))
-      (λ i. slice_index c.words (first + i))
-      (λ i h. let e : first + i ≡ cell_at z i = omega arith in ap (slice_index c.words) e)
-      ∙ sym (words_held (λ i. slice_index c.words (cell_at z i)) 0 z.cells));
-  weak_cells = weak_cells
-      ∙ (each_same z.weak_cells (λ i. slice_index c.words (weak_cell_at z i))
-      (λ i. slice_index c.words (weak_first + i))
-      (λ i h. let e : weak_first + i ≡ weak_cell_at z i = omega arith in ap (slice_index c.words) e)
-      ∙ sym (words_held (λ i. slice_index c.words (weak_cell_at z i)) 0 z.weak_cells));
+      ∙ (get_each 0 z.slots s.0 image free_image (let n = slots_shown z c in omega arith)
+      ∙ ap image at);
+  cells = cell_words z c heap.cells.items first cells first_is;
+  weak_cells = weak_cell_words z c heap.weak_cells.items weak_first weak_cells weak_is;
   deferred = deferred;
 }
   where
     image : ℕ → SlotImage
     image x = image_at (shows z c) (record { 0 = x })
-
-    size : length (shows z c).slots ≡ z.slots
-    size = length_each 0 z.slots (λ x. show_slot z c (record { 0 = x }))

@@ -1,5 +1,5 @@
 -- What a seat that is alone knows of the whole state.
-use Rattle.std.proofs.Common.{◌≡◌, ℕ, false, List, [], ◌∷◌, length, Result, Ok, Err, ap, sym, ◌∙◌, subst, arith}
+use Rattle.std.proofs.Common.{◌≡◌, ℕ, false, List, Result, Ok, Err, ap, sym, ◌∙◌, subst}
 use Rattle.std.specs.Prelude.{Some, IsSome, IfOk}
 use Rattle.std.specs.Option.{option_map}
 use mathlib.Core.Option.{some}
@@ -7,6 +7,7 @@ use lib.ListN.{get_elem?}
 use Rattle.atomic_table.specs.Table.{Seen, State}
 use Rattle.atomic_table.specs.declared.shared.Seat.{Seat as TableSeat}
 use Rattle.plain_state.specs.declared.image.Heap.{Heap}
+use Rattle.plain_state.specs.declared.slot.SlotId.{SlotId}
 use Rattle.plain_state.specs.Fits.{AllFit}
 use Rattle.plain_state.specs.Images.{IsImage}
 use Rattle.plain_state.specs.State.{Plain}
@@ -26,6 +27,7 @@ use Rattle.domain_rule.specs.Views.{IsAlone, core_in}
 use Rattle.domain_rule.proofs.Gone.{alone_clients}
 use Rattle.domain_rule.proofs.Reading.{known_is}
 use Rattle.domain_rule.proofs.Telling.{in_seats, kept_sound, true_of}
+use Rattle.acquire_retire.specs.Taken.{HasWords, IsTakenImage, taken_slots}
 use Rattle.acquire_retire.specs.Wholes.{IsLast, IsWholeImage, KnowsCore, KnowsState, core_known, known_core, known_state}
 use Rattle.acquire_retire.specs.Domains.{DomainState}
 use Rattle.acquire_retire.specs.Seats.{IsSeated, SeatState}
@@ -101,8 +103,32 @@ whole_image {V = V} d fits seat r is shape k heap image =
       image = image;
     }) shape
 
+-- so are the words of what isn't free
+pub whole_taken : {P V : Type 0} (d : DomainState P) (fits : List ℕ → Type 0)
+    (seat : TableSeat (Unit {0}) (SeatView V)) (r : SeatState V) → value_of seat ≡ r
+    → r.view.core.shape ≡ d.shape → KnowsCore d fits seat → (taken : List SlotId) (heap : Heap)
+    → taken ≡ taken_slots (known_state d seat) → HasWords (known_state d seat) taken heap
+    → IsTakenImage fits r.view taken heap
+whole_taken {V = V} d fits seat r is shape k taken heap all words =
+    let T : SeatState V → Type 0 = λ x.
+    x.view.core.shape ≡ d.shape → IsTakenImage fits x.view taken heap in
+    subst T is
+    (λ same. record {
+      state = known_state d seat;
+      knows = known_is seat.me.0.whole (KnowsState fits seat.me.0 (known_state d seat))
+          (λ all e. knows_state fits d.shape (known_core seat.me.0) seat.me.0 all same k.sound k.fit
+          e (sym (ap core_known e))) k.knows;
+      all = all;
+      words = words;
+    }) shape
+
 -- what follows for each value follows for that of a result
 pub then_ok : {T E : Type 0} (P Q : T → Type 0) (r : Result T E) → ((x : T) → P x → Q x) → IfOk r P
     → IfOk r Q
 then_ok P Q (Ok x) follows p = follows x p
 then_ok P Q (Err e) follows p = tt
+
+pub both_ok : {T E : Type 0} (P Q R : T → Type 0) (r : Result T E)
+    → ((x : T) → P x → Q x → R x) → IfOk r P → IfOk r Q → IfOk r R
+both_ok P Q R (Ok x) follows p q = follows x p q
+both_ok P Q R (Err e) follows p q = tt

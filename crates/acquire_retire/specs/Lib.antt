@@ -14,4 +14,5 @@ pub mod Openings
 pub mod Leavings
 pub mod Collecting
 pub mod Wholes
+pub mod Taken
 pub mod Scripts

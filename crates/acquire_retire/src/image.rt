@@ -28,7 +28,7 @@ fn strong_image(word: u64) -> u64
 
 impl<P: Protocol> Domain<P> {
     /// A seat that knows the whole core learns that this is so, by a load of the base word.
-    fn learn(&self, seat: &mut atomic_table::Seat<(), SeatView<P::View>>)
+    pub(crate) fn learn(&self, seat: &mut atomic_table::Seat<(), SeatView<P::View>>)
         requires table { seat.old.table_id ≡ self.now.table }
         requires here { seat.old.me.0.gone ≡ false }
         requires knows { IsSome seat.old.me.0.whole }
@@ -40,7 +40,11 @@ impl<P: Protocol> Domain<P> {
     }
 
     /// One word.
-    fn known_word(&self, seat: &mut atomic_table::Seat<(), SeatView<P::View>>, word: usize) -> u64
+    pub(crate) fn known_word(
+        &self,
+        seat: &mut atomic_table::Seat<(), SeatView<P::View>>,
+        word: usize,
+    ) -> u64
         requires knows { KnowsCore self.now P.Kind.fits seat.old }
         requires word { word < word_count self.now.shape }
         ensures stays { IsSame seat.old seat.new }
@@ -50,7 +54,7 @@ impl<P: Protocol> Domain<P> {
     }
 
     /// The words from a place on, in a list's own memory where that is enough.
-    fn known_words(
+    pub(crate) fn known_words(
         &self,
         seat: &mut atomic_table::Seat<(), SeatView<P::View>>,
         first: usize,
@@ -90,7 +94,7 @@ impl<P: Protocol> Domain<P> {
     }
 
     /// The words of a slot.
-    fn slot_image(
+    pub(crate) fn slot_image(
         &self,
         seat: &mut atomic_table::Seat<(), SeatView<P::View>>,
         slot: SlotId,

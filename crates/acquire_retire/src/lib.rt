@@ -43,6 +43,7 @@ mod seat;
 mod site;
 mod splitting;
 mod standing;
+mod taken;
 mod tickets;
 mod weak_counters;
 
