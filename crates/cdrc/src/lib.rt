@@ -54,7 +54,7 @@ pub use weak_intern::{
 };
 
 // What lives, waits, or lies in a cycle.
-pub use domain_audit::{Audit, audit_domain};
+pub use domain_audit::{Audit, AuditRoom, audit_by_number, audit_domain};
 
 // A life of a domain: its seats, turns and threads, whole payloads, and its end.
 pub use seat_life::{

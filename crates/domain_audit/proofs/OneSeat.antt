@@ -1,7 +1,7 @@
 -- A state of which seat 0 alone has anything is a heap with that seat alone: with its references, its deferred entries,
 -- and the adds of all. Where the heap has that seat under a snapshot of each entry, nothing more may go, so the audit of
 -- plain heaps is one of the state too.
-use Rattle.std.proofs.Common.{◌≡◌, ◌≢◌, ⊎_elim, inl, inr, ℕ, zero, suc, ◌+◌, ◌^◌, ◌<◌, ◌≤◌, false, List, [], ◌∷◌, length, get_or, refl, ap, sym, ◌∙◌, subst, arith}
+use Rattle.std.proofs.Common.{◌≡◌, ◌≢◌, ⊎_elim, inl, inr, ℕ, zero, suc, ◌+◌, ◌^◌, ◌<◌, ◌≤◌, false, List, [], ◌∷◌, length, get_or, map, refl, ap, sym, ◌∙◌, subst, arith}
 use Rattle.std.specs.Prelude.{None, Result, IfOk, Ok, Err}
 use Rattle.std.proofs.lemmas.List.Sums.{sum_by-cons}
 use Rattle.plain_audit.specs.plain_state.Limits.{most_slots}
@@ -26,6 +26,7 @@ use Rattle.plain_audit.proofs.Below.heap_audit_Alike.{found_alike, many_alike}
 use Rattle.plain_audit.specs.Audits.{IsAudit}
 use Rattle.plain_audit.specs.Reached.{HasField, IsReached, IsRoot, IsUnreached}
 use Rattle.plain_audit.proofs.ImageLaws.{image_fits, image_in_range, image_lawful}
+use Rattle.protected_loads.specs.acquire_retire.Taken.{HasWords}
 use Rattle.domain_audit.specs.Lone.{CanBeAudited}
 
 -- the seat has no reference, and nothing to give up or to destroy
@@ -180,6 +181,19 @@ module _ (fits : List ℕ → Type 0) (p : Plain) (lone : IsLoneState fits p) wh
     destroyed = refl;
     ended = λ s live. omega (arith, lone.ended s live, strong_same s);
     given = λ s husk. omega (arith, lone.given s husk, weak_same s);
+  }
+
+  -- the words of some slots of the state are those of the heap
+  pub has_words : (taken : List SlotId) (words : Heap) → HasWords p taken words
+      → HasWords heap taken words
+  has_words taken words has = record {
+    slots =
+        has.slots
+        ∙ (λ i. map (λ s. image_of (slot_at p s) (sym (strong_same s) i) (sym (weak_same s) i))
+        taken);
+    cells = has.cells;
+    weak_cells = has.weak_cells;
+    deferred = has.deferred;
   }
 
   module _ (image : Heap) (is : IsImage p image) where

@@ -1,8 +1,8 @@
--- The audit of the image that a seat takes is one of the state that it knows.
-use Rattle.std.proofs.Common.{◌≡◌, ℕ, ◌^◌, ◌<◌, ◌≤◌, List, [], ◌++◌, length, ap, sym, ◌∙◌, subst, arith}
-use Rattle.std.specs.Prelude.{IfOk, Result, Some}
-use Rattle.plain_audit.specs.plain_state.Limits.{most_slots}
+-- The audit of the words that a seat takes of what isn't free is one of the state that it knows.
+use Rattle.std.proofs.Common.{◌≡◌, ℕ, ◌+◌, ◌<◌, ◌≤◌, List, [], ◌++◌, length, map, All, refl, ap, sym, ◌∙◌, subst, arith}
+use Rattle.std.specs.Prelude.{IfOk, Result, Some, slice_index}
 use Rattle.plain_audit.specs.plain_state.declared.image.Heap.{Heap}
+use Rattle.plain_audit.specs.plain_state.declared.slot.SlotId.{SlotId}
 use Rattle.plain_audit.specs.plain_state.State.{Plain, PlainSeat, seat_at}
 use Rattle.protected_loads.specs.core_events.declared.view.CoreView.{CoreView}
 use Rattle.protected_loads.specs.core_events.Runs.{Core}
@@ -10,21 +10,21 @@ use Rattle.protected_loads.specs.core_events.Shows.{show_seat, shows}
 use Rattle.protected_loads.specs.core_events.Steps.{HasRoom, IsIdle}
 use Rattle.protected_loads.specs.acquire_retire.Domains.{DomainState}
 use Rattle.protected_loads.specs.acquire_retire.Seats.{SeatState}
-use Rattle.protected_loads.specs.acquire_retire.Wholes.{IsWholeImage, known_core}
+use Rattle.protected_loads.specs.acquire_retire.Taken.{IsTakenImage}
+use Rattle.protected_loads.specs.acquire_retire.Wholes.{known_core}
 use Rattle.slot_store.proofs.Below.acquire_retire_Wholes.{then_ok}
 use Rattle.protected_loads.specs.control_word.Resting.{IsAtRest}
 use Rattle.plain_audit.specs.heap_audit.declared.finding.Audit.{Audit}
-use Rattle.plain_audit.specs.heap_audit.Heaps.{slot, live_bytes, live_slots}
-use Rattle.plain_audit.specs.heap_audit.Reached.{HowMany, IsUnreached}
-use Rattle.plain_audit.specs.heap_audit.Walks.{IsFound, IsWalk}
 use Rattle.plain_audit.specs.Audits.{IsAudit}
-use Rattle.plain_audit.proofs.Auditing.{audit_made}
-use Rattle.domain_audit.specs.Audits.{IsWholeAudit, KnowsLone, Stays}
-use Rattle.domain_audit.specs.Lone.{CanBeAudited, IsLone}
+use Rattle.taken_audit.specs.Parts.{AreRanks, HasTaken}
+use Rattle.taken_audit.proofs.Whole.{all_within, ranks_by}
+use Rattle.domain_audit.specs.Audits.{IsWholeAudit, KnowsLone, Stays, numbers}
+use Rattle.domain_audit.specs.Lone.{IsLone}
 use Rattle.protected_loads.proofs.Below.core_law_Bridge.{shown_seat}
+use Rattle.protected_loads.proofs.Below.core_law_Each.{get_each}
 use Rattle.domain_audit.proofs.AllCyclic.{all_cyclic}
 use Rattle.domain_audit.proofs.Learning.{knows_shown}
-use Rattle.domain_audit.proofs.OneSeat.{IsLoneState, audit_same, can_be_audited, is_heap, is_image, is_settled, with_one_seat}
+use Rattle.domain_audit.proofs.OneSeat.{IsLoneState, audit_same, has_words, is_heap, is_settled, with_one_seat}
 use Rattle.domain_audit.proofs.Showing.{lone_state, size}
 
 some_same : {A : Type 0} (x y : A) → Some x ≡ Some y → x ≡ y
@@ -39,8 +39,8 @@ module _ {P V : Type 0} {fits : List ℕ → Type 0} (d : DomainState P) (old se
   dying_stays stays none = ap (λ (v : CoreView). v.dying) stays.1.core ∙ none
 
   module _ (stays : Stays fits d old seat) (none_dying : old.view.core.dying ≡ [])
-      (knows : KnowsLone fits d seat) (rest : IsAtRest d seat) (image : Heap)
-      (whole : IsWholeImage fits seat.view image) where
+      (knows : KnowsLone fits d seat) (rest : IsAtRest d seat) (taken : List SlotId) (words : Heap)
+      (whole : IsTakenImage fits seat.view taken words) where
     abbrev core : Core
     core = known_core seat.view
 
@@ -51,7 +51,7 @@ module _ {P V : Type 0} {fits : List ℕ → Type 0} (d : DomainState P) (old se
       none_dying = ap (λ (v : CoreView). v.dying) (sym knows.half) ∙ dying_stays stays none_dying;
     }
 
-    -- the state of the image is what the core shows
+    -- the state of these words is what the core shows
     state_is : whole.state ≡ shows d.shape core
     state_is = some_same whole.state (shows d.shape core)
         (sym whole.knows.whole ∙ knows_shown d.shape seat.view rest.of_domain.1 knows.known)
@@ -60,20 +60,36 @@ module _ {P V : Type 0} {fits : List ℕ → Type 0} (d : DomainState P) (old se
     state = subst (IsLoneState fits) (sym state_is)
         (lone_state d.shape core knows.sound lone fits knows.fit)
 
-    pub auditable : CanBeAudited fits image
-    auditable = can_be_audited fits whole.state state image whole.image
+    pub has_taken : HasTaken fits (with_one_seat whole.state) taken words
+    has_taken = record {
+      state = is_heap fits whole.state state;
+      settled = is_settled fits whole.state state;
+      all = whole.all;
+      words = has_words fits whole.state state taken words whole.words;
+    }
 
-    slots_are : length image.slots.items ≡ d.shape.slots
-    slots_are =
-        whole.image.size
-        ∙ ap (λ (p : Plain). length p.slots) state_is ∙ size d.shape core knows.sound
+    slots_are : length whole.state.slots ≡ d.shape.slots
+    slots_are = ap (λ (p : Plain). length p.slots) state_is ∙ size d.shape core knows.sound
 
-    pub few : length image.slots.items ≤ most_slots
-    few = let most = knows.sound.shape.3 in let same = slots_are in omega arith
+    -- each slot that is listed has a rank
+    pub within : (ranks : List ℕ) → length ranks ≡ d.shape.slots
+        → All (λ (s : SlotId). s.0 < length ranks) taken
+    within ranks count = subst (λ (n : ℕ). All (λ (s : SlotId). s.0 < n) taken)
+        (slots_are ∙ sym count)
+        (all_within fits (with_one_seat whole.state) taken words words has_taken)
 
-    pub ranked : (ranks : List ℕ) → length ranks ≡ d.shape.slots
-        → length ranks ≡ length image.slots.items
-    ranked ranks count = count ∙ sym slots_are
+    pub numbered : (places : List ℕ) → places ≡ map (λ (s : SlotId). s.0) taken
+        → AreRanks taken places (numbers d.shape.slots)
+    numbered places are = ranks_by (λ (s : SlotId). s.0) taken places (numbers d.shape.slots) are
+        (λ s lt. let at : 0 + s.0 ≡ s.0 = omega arith in
+        sym (get_each 0 d.shape.slots s.0 (λ i. i) 0 lt ∙ at))
+        (subst (λ (n : ℕ). All (λ (s : SlotId). s.0 < n) taken) slots_are
+        (all_within fits (with_one_seat whole.state) taken words words has_taken))
+
+    pub ranked : (ranks : List ℕ) → length ranks ≡ d.shape.slots → (places : List ℕ)
+        → places ≡ map (λ (s : SlotId). slice_index ranks s.0) taken → AreRanks taken places ranks
+    ranked ranks count places are = ranks_by (λ (s : SlotId). slice_index ranks s.0) taken places
+        ranks are (λ s lt. refl) (within ranks count)
 
     -- of which the seat has this part
     seat_is : seat_at whole.state 0 ≡ show_seat seat.view.core
@@ -97,23 +113,17 @@ module _ {P V : Type 0} {fits : List ℕ → Type 0} (d : DomainState P) (old se
               holds.3 weight ranks found audit;
         }
 
-    -- and the image leaves the seat as it is
-    pub audits : {E : Type 0} (weight : List ℕ → ℕ) (ranks : List ℕ) (r : Result Audit E)
-        (late : SeatState V) → late ≡ seat
-        → IfOk r (λ found. found.live ≡ live_slots image)
-        → IfOk r (λ found. found.deferred ≡ length image.deferred.items)
-        → IfOk r (λ found. found.bytes ≡ live_bytes weight image)
-        → IfOk r (λ found.
-        HowMany (λ n. IsUnreached image (slot n)) (length image.slots.items) found.cyclic)
-        → IfOk r (λ found. found.cyclic ≡ 0 → found.walk.items ≡ [])
-        → IfOk r (λ found. 0 < found.cyclic → IsFound image ranks found.walk.items)
-        → IfOk r (λ found. 0 < found.cyclic → IsWalk image found.walk.items)
+    -- and the words leave the seat as it is
+    pub audits : {E : Type 0} (weight : List ℕ → ℕ) (places ranks : List ℕ)
+        (are : AreRanks taken places ranks) (r : Result Audit E) (late : SeatState V) → late ≡ seat
+        → IfOk r (λ found. (p : Plain) → HasTaken fits p taken words → (ranks : List ℕ)
+        → AreRanks taken places ranks → IsAudit weight ranks p found)
         → IfOk r (IsWholeAudit fits weight ranks late.view)
-    audits weight ranks r late same live deferred bytes cyclic none walk round =
-        then_ok (IsAudit weight ranks (with_one_seat whole.state))
+    audits weight places ranks are r late same told =
+        then_ok (λ found. (p : Plain) → HasTaken fits p taken words → (ranks : List ℕ)
+        → AreRanks taken places ranks → IsAudit weight ranks p found)
         (IsWholeAudit fits weight ranks late.view) r
-        (λ found is. subst (λ (x : SeatState V). IsWholeAudit fits weight ranks x.view found)
-        (sym same) (whole_audit weight ranks found is))
-        (audit_made (with_one_seat whole.state) image
-        (is_image fits whole.state state image whole.image) fits (is_heap fits whole.state state)
-        (is_settled fits whole.state state) weight ranks r live deferred bytes cyclic none walk round)
+        (λ found all. subst (λ (x : SeatState V). IsWholeAudit fits weight ranks x.view found)
+        (sym same) (whole_audit weight ranks found
+        (all (with_one_seat whole.state) has_taken ranks are)))
+        told

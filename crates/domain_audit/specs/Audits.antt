@@ -9,6 +9,7 @@ use Rattle.protected_loads.specs.core_events.declared.outcome.Outcome.TheVariant
 use Rattle.protected_loads.specs.core_events.declared.view.Move.{Move}
 use Rattle.protected_loads.specs.core_events.Runs.{view_at}
 use Rattle.protected_loads.specs.core_events.Shows.{shows}
+use Rattle.protected_loads.specs.core_events.Words.{each_from}
 use Rattle.protected_loads.specs.core_law.Sound.{Sound}
 use Rattle.protected_loads.specs.domain_rule.declared.view.SeatView.{SeatView}
 use Rattle.protected_loads.specs.domain_rule.Rule.{OthersLeft}
@@ -46,6 +47,10 @@ module _ {P V : Type 0} (fits : List ℕ → Type 0) (d : DomainState P) where
 abbrev pub HoldsNothing : {V : Type 0} → SeatView V → Plain → Type 0
 HoldsNothing v p =
     (v.core.owned ≡ []) × (v.core.owed ≡ []) × (v.core.retired ≡ []) × HasNullCells p
+
+-- each number below n, in its place
+abbrev pub numbers : ℕ → List ℕ
+numbers n = each_from 0 n (λ i. i)
 
 module _ {V : Type 0} (fits : List ℕ → Type 0) (weight : List ℕ → ℕ) (ranks : List ℕ) where
   -- The audit finds this of the whole state, as the seat knows it. Where the seat holds nothing, all that live is

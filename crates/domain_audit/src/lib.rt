@@ -1,6 +1,6 @@
 //! The audit of a running domain: what of its heap lives, what waits, and what only cycles of strong references keep.
 //!
-//! Once every other seat has left, seat 0 can take an image of the whole heap. An audit of that image tells how many
+//! Once every other seat has left, seat 0 can read the whole heap. An audit of the slots that aren't free tells how many
 //! objects live, how many decrements are deferred, how many objects are unreached and what all of them weigh, and walks
 //! round a cycle where any is unreached. What is found is told of the plain state that the domain shows, in the words
 //! of `plain_audit`: no image stands in the contract.
@@ -21,7 +21,7 @@
 mod auditing;
 mod laws;
 
-pub use auditing::{audit_domain, audit_domain_in};
+pub use auditing::{AuditRoom, audit_by_number, audit_domain};
 pub use laws::image_can_be_audited;
 pub use plain_audit::Audit;
 pub use protected_loads::{

@@ -9,8 +9,8 @@ ghost use Rattle.example_threads.specs.Free.{IsFree, IsRoot};
 use crate::counted::Counted;
 use crate::fault::Fault;
 use cdrc::{
-    Audit, Deleter, Domain, OutOfMemory, Protocol, Quota, Seat, Shape, audit_domain, leave,
-    open_domain, settle,
+    Audit, AuditRoom, Deleter, Domain, OutOfMemory, Protocol, Quota, Seat, Shape, audit_by_number,
+    leave, open_domain, settle,
 };
 use std::alloc::Global;
 
@@ -113,9 +113,7 @@ fn settle_and_audit<P: Protocol, F: Fn(&[u64; 16]) -> u64>(
     ensures free { IsFree domain.now root.new }
 {
     settle(domain, root, deleter);
-    // Where nothing lies in a cycle no rank matters.
-    let ranks = vec![in alloc; 0u64; domain.shape().slots as usize]?;
-    audit_domain(alloc, domain, root, deleter, &ranks)
+    audit_by_number(alloc, domain, root, deleter, &mut AuditRoom::empty(alloc))
 }
 
 /// Seat 0 destroys all that may be destroyed, tells what is left, and closes the domain. `Stayed` where another seat

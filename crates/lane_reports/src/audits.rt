@@ -1,5 +1,5 @@
 //! The audits before and after seat 0 gives up what it keeps.
-ghost use Rattle.std.specs.Prelude.{◌≡◌, [], ℕ, IfOk, IfSome, OnOk, length};
+ghost use Rattle.std.specs.Prelude.{◌≡◌, [], IfOk, IfSome};
 ghost use Rattle.domain_audit.specs.core_events.Steps.{HasRoom};
 ghost use Rattle.domain_audit.specs.core_events.Views.{snapshots};
 ghost use Rattle.domain_audit.specs.control_word.Resting.{IsAtRest};
@@ -8,15 +8,16 @@ ghost use Rattle.domain_audit.specs.domain_rule.Views.{IsAlone};
 ghost use Rattle.law_lesson.specs.plain_state.declared.slot.SlotId.{SlotId};
 ghost use Rattle.law_lesson.specs.plain_state.Lists.{times};
 ghost use Rattle.domain_audit.specs.acquire_retire.Collecting.{rest_of};
+ghost use Rattle.domain_audit.specs.Audits.{numbers};
 ghost use Rattle.lane_reports.specs.Audits.{IsAudited, KnowsOwned};
 ghost use Rattle.words_rest.specs.Written.{line_of};
 ghost use Rattle.lane_reports.specs.Reporting.{HasNothingDeferred};
 ghost use Rattle.lane_reports.specs.Trails.{GoesOnAlone};
 
 use crate::learning::holds_nothing;
-use domain_audit::{Audit, Domain, Seat, audit_domain_in, settle};
+use domain_audit::{Audit, AuditRoom, Domain, Seat, audit_by_number, settle};
 use lane_domain::{NodeKind, RecordKind, WordsLaw};
-use law_lesson::{Heap, PayloadKind};
+use law_lesson::PayloadKind;
 use std::alloc::Global;
 use std::sync::Wait;
 use tally_sums::{AuditLine, OutOfMemory};
@@ -34,17 +35,6 @@ pub(crate) fn audit_line(found: &Audit) -> AuditLine
     }
 }
 
-/// A rank for each slot: its number.
-pub(crate) fn list_ranks(alloc: Global, slots: u32) -> Result<Vec<u64>, OutOfMemory>
-    ensures { IfOk result (λ ranks. length ranks.items ≡ slots) }
-{
-    let mut ranks = Vec::with_capacity(alloc, slots as usize)?;
-    for slot in 0..slots {
-        ranks.push(slot as u64)?;
-    }
-    Ok(ranks)
-}
-
 /// Audits the domain once its seat has settled. None where an object is unreached, or a cell of the queue holds
 /// anything.
 fn audit_settled<F: Fn(&[u64; 16]) -> u64>(
@@ -52,8 +42,7 @@ fn audit_settled<F: Fn(&[u64; 16]) -> u64>(
     domain: &Domain<WordsLaw>,
     root: &mut Seat<WordsLaw>,
     weigh: &Deleter<PairKind<NodeKind, RecordKind>, F>,
-    rank: &[u64],
-    image: &mut Heap,
+    room: &mut AuditRoom,
 ) -> Result<Option<Audit>, OutOfMemory>
     requires rest { IsAtRest domain.now root.old }
     requires room { HasRoom root.old.view.core }
@@ -64,10 +53,9 @@ fn audit_settled<F: Fn(&[u64; 16]) -> u64>(
     requires cells { domain.now.shape.cells ≡ 2 }
     requires weighs { Weighs ⟦<PairKind<NodeKind, RecordKind> as PayloadKind>⟧.fits
         ⟦<PairKind<NodeKind, RecordKind> as PayloadKind>⟧.weight F.Fn weigh.now }
-    requires ranked { length rank.now ≡ domain.now.shape.slots }
     ensures found { IfOk result (λ audit. IfSome audit
         (IsAudited ⟦<PairKind<NodeKind, RecordKind> as PayloadKind>⟧.fits
-        ⟦<PairKind<NodeKind, RecordKind> as PayloadKind>⟧.weight rank.now domain.now root.new)) }
+        ⟦<PairKind<NodeKind, RecordKind> as PayloadKind>⟧.weight (numbers domain.now.shape.slots) domain.now root.new)) }
     ensures settled { HasNothingDeferred root.new.view.core }
     ensures same { rest_of root.new.view.core ≡ rest_of root.old.view.core }
     ensures objects { KnowsOwned root.old root.new }
@@ -77,7 +65,7 @@ fn audit_settled<F: Fn(&[u64; 16]) -> u64>(
     ensures room { HasRoom root.new.view.core }
     ensures rest { IsAtRest domain.now root.new }
 {
-    let found = audit_domain_in(alloc, domain, root, weigh, rank, image)?;
+    let found = audit_by_number(alloc, domain, root, weigh, room)?;
     let head_is_null = holds_nothing(domain, root, 0);
     let tail_is_null = holds_nothing(domain, root, 1);
     if found.cyclic == 0 && head_is_null && tail_is_null {
@@ -95,8 +83,7 @@ pub(crate) fn audit_at_rest<R: Wait, F: Fn(&[u64; 16]) -> u64>(
     domain: &Domain<WordsLaw>,
     root: &mut Seat<WordsLaw>,
     weigh: &Deleter<PairKind<NodeKind, RecordKind>, F>,
-    rank: &[u64],
-    image: &mut Heap,
+    room: &mut AuditRoom,
 ) -> Result<Audit, OutOfMemory>
     requires rest { IsAtRest domain.now root.old }
     requires room { HasRoom root.old.view.core }
@@ -106,10 +93,9 @@ pub(crate) fn audit_at_rest<R: Wait, F: Fn(&[u64; 16]) -> u64>(
     requires cells { domain.now.shape.cells ≡ 2 }
     requires weighs { Weighs ⟦<PairKind<NodeKind, RecordKind> as PayloadKind>⟧.fits
         ⟦<PairKind<NodeKind, RecordKind> as PayloadKind>⟧.weight F.Fn weigh.now }
-    requires ranked { length rank.now ≡ domain.now.shape.slots }
     ensures found { IfOk result (IsAudited
         ⟦<PairKind<NodeKind, RecordKind> as PayloadKind>⟧.fits
-        ⟦<PairKind<NodeKind, RecordKind> as PayloadKind>⟧.weight rank.now domain.now root.new) }
+        ⟦<PairKind<NodeKind, RecordKind> as PayloadKind>⟧.weight (numbers domain.now.shape.slots) domain.now root.new) }
     ensures settled { HasNothingDeferred root.new.view.core }
     ensures same { rest_of root.new.view.core ≡ rest_of root.old.view.core }
     ensures objects { KnowsOwned root.old root.new }
@@ -121,7 +107,7 @@ pub(crate) fn audit_at_rest<R: Wait, F: Fn(&[u64; 16]) -> u64>(
 {
     for _try in rt.forever() {
         let _weights = settle(domain, root, weigh);
-        if let Some(found) = audit_settled(alloc, domain, root, weigh, rank, image)? {
+        if let Some(found) = audit_settled(alloc, domain, root, weigh, room)? {
             return Ok(found);
         }
     }

@@ -16,7 +16,7 @@ ghost use Rattle.lane_reports.specs.Holders.{IsRoot};
 ghost use Rattle.lane_reports.specs.Reporting.{HasCounted, HasNothing, KnowsNoneLive, LeftNothing};
 ghost use Rattle.lane_reports.specs.Rows.{IsWhyNoReport};
 
-use crate::audits::{audit_at_rest, audit_line, list_ranks};
+use crate::audits::{audit_at_rest, audit_line};
 use crate::done::{Done, Gathered};
 use crate::gathering::gather;
 use crate::giving::give_all;
@@ -26,7 +26,7 @@ use crate::refusal::RowsError;
 use crate::rows::count_rows;
 use crate::shutting::shut_and_settle;
 use crate::taking::take_rest;
-use domain_audit::{Domain, Seat, Strong, empty_image};
+use domain_audit::{AuditRoom, Domain, Seat, Strong};
 use lane_domain::{NodeKind, RecordKind, Shared, WordsLaw, Work, count_pieces};
 use law_lesson::PayloadKind;
 use std::alloc::Global;
@@ -69,12 +69,11 @@ fn write_report<R: Threads + Wait + Sync, F: Fn(&[u64; 16]) -> u64>(
     ensures rest { IsAtRest domain.now root.new }
 {
     let records = find_records(rt, alloc, domain, root, shared, &kept, tallies)?;
-    let rank = list_ranks(alloc, domain.shape().slots)?;
-    let mut image = empty_image(alloc);
-    let held = audit_at_rest(rt, alloc, domain, root, weigh, &rank, &mut image)?;
+    let mut room = AuditRoom::empty(alloc);
+    let held = audit_at_rest(rt, alloc, domain, root, weigh, &mut room)?;
     let rows = count_rows(alloc, domain, root, shared, records)?;
     give_all(domain, root, kept);
-    let freed = audit_at_rest(rt, alloc, domain, root, weigh, &rank, &mut image)?;
+    let freed = audit_at_rest(rt, alloc, domain, root, weigh, &mut room)?;
     let totals = Totals {
         files: work.files.len() as u64,
         pieces: count_pieces(work),

@@ -6,7 +6,9 @@ ghost use Rattle.domain_audit.specs.slot_store.deleter.Weighing.{Weighs};
 ghost use Rattle.seat_life.specs.Ends.{HasSettled};
 ghost use Rattle.seat_life.specs.Free.{IsFree, IsSameSeat, OwnsTheSame};
 
-use domain_audit::{Audit, Deleter, Domain, OutOfMemory, Protocol, Seat, audit_domain, settle};
+use domain_audit::{
+    Audit, AuditRoom, Deleter, Domain, OutOfMemory, Protocol, Seat, audit_by_number, settle,
+};
 use std::alloc::Global;
 
 /// What became of a domain's objects: the weights of those that were destroyed, added up, and an audit of what is left.
@@ -20,7 +22,7 @@ pub struct Settled {
 /// seat owns nothing strongly and all strong cells are null, all that is left is kept by cycles of strong references
 /// alone: `cyclic` is `live`. `OutOfMemory` comes only of an allocation failure; what was destroyed is destroyed then.
 ///
-/// It takes memory for a number a slot, and for what the audit takes. As many steps as `settle` and `audit_domain`.
+/// It takes memory for what the audit takes. As many steps as `settle` and `audit_by_number`.
 pub fn settle_and_audit<P: Protocol, F: Fn(&[u64; 16]) -> u64>(
     alloc: Global,
     domain: &Domain<P>,
@@ -38,10 +40,8 @@ pub fn settle_and_audit<P: Protocol, F: Fn(&[u64; 16]) -> u64>(
     ensures alone { IsAlone root.new.view }
     ensures free { IsFree domain.now root.new }
 {
-    // Which cycle an audit walks doesn't matter here, so no rank does.
-    let ranks = vec![in alloc; 0u64; domain.shape().slots as usize]?;
     let weights = settle(domain, root, deleter);
-    let audit = audit_domain(alloc, domain, root, deleter, &ranks)?;
+    let audit = audit_by_number(alloc, domain, root, deleter, &mut AuditRoom::empty(alloc))?;
     Ok(Settled { weights, audit })
 }
 

@@ -93,9 +93,9 @@ returns-clause-holders g c =
     let are = c.in_ok-rows.ensures.rows held.state held.knows.whole in
     holders_counted c.args.work.now held.state (slots_of c.deref.result.now)
     c.find_records.new.root c.audit_at_rest.new.root c.count_rows.new.root
-    c.audit_at_rest-2.new.root c.in_ok-records.records.items c.deref-4.result.now
+    c.audit_at_rest-2.new.root c.in_ok-records.records.items c.deref-2.result.now
     c.in_ok-rows.rows.items _ c.in_ok-report.field-0.items c.in_ok-report.ensures
-    c.deref-4.ensures.value
+    c.deref-2.ensures.value
     (have_words c.args.work.now c.requires.work c.args.tallies.now c.requires.counted.counts
     c.in_ok-records.records.items c.in_ok-records.ensures.words held.state c.in_ok-rows.rows.items
     are)
@@ -118,9 +118,9 @@ returns-clause-report g c =
     ∙ c.find_records.ensures.leaves.owns s ∙ c.requires.counted.owned s)
     refl c.give_all.ensures.gives c.audit_at_rest-2.ensures.same in
     subst (IsReport (texts_in c.args.work.now) c.args.work.now.rounds)
-    (sym (text_is c.args.work.now c.in_ok-report.field-0.items c.deref-4.result.now
+    (sym (text_is c.args.work.now c.in_ok-report.field-0.items c.deref-2.result.now
     c.in_ok-rows.rows.items _ c.in_ok-held.held c.in_ok-freed.freed c.in_ok-report.ensures
-    c.deref-4.ensures.value (c.len.ensures ∙ size) c.count_pieces.ensures c.audit_line.ensures
+    c.deref-2.ensures.value (c.len.ensures ∙ size) c.count_pieces.ensures c.audit_line.ensures
     c.audit_line-2.ensures))
     (written c.args.domain.now (λ words. 0) _ c.args.work.now c.requires.work c.requires.counted.small
     (slots_of c.args.kept.items) c.args.tallies.now c.in_ok-records.records.items

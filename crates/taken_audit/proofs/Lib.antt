@@ -1,0 +1,10 @@
+pub mod Places
+pub mod InPlace
+pub mod Listed
+pub mod Named
+pub mod Given
+pub mod Counted
+pub mod PartLaws
+pub mod Mapped
+pub mod PartAudits
+pub mod Whole
