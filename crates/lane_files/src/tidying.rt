@@ -12,8 +12,9 @@ use words_protocol::{NodeKind, PairKind, RecordKind, WordsLaw};
 /// The most objects that a lane destroys after one piece.
 const MOST_REAPS: u32 = 4;
 
-/// Collects, which is a whole scan, and then destroys what is dying, four objects at most. A collect is at most a step
-/// for each announcement word and three for each retired entry, and each object at most 21 steps and four collects.
+/// Collects, which is a whole scan, and then destroys what is dying, four objects at most, with a collect after each: a
+/// node that was popped holds the next one, so that this one can end only then. A collect is at most a step for each
+/// announcement word and three for each retired entry, and each object at most 21 steps and four collects.
 pub fn tidy<F: Fn(&[u64; 16]) -> u64>(
     domain: &Domain<WordsLaw>,
     seat: &mut Seat<WordsLaw>,
@@ -34,5 +35,6 @@ pub fn tidy<F: Fn(&[u64; 16]) -> u64>(
         if reap(domain, seat, weigh).is_none() {
             return;
         }
+        collect(domain, seat);
     }
 }

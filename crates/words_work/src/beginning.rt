@@ -19,11 +19,14 @@ use std::thread::Threads;
 /// freed.
 const UNDER_WAY: u64 = 16_384;
 
+/// On so many lanes a slot for the node of each piece is guessed.
+const LANES_THAT_WAIT: u64 = 12;
+
 /// How many slots the work is likely to need on so many lanes: those of its distinct words' records, and what lanes
 /// can have under way, as nodes that wait or are not yet freed, and records of words that two lanes make at once. With
-/// more lanes than one that is one for each piece besides: while a lane waits for a processor with a node under its
-/// announcement, the others pop on, and what they pop is freed behind that node. It needn't be enough. A step for each
-/// piece.
+/// more lanes than one that is some for each twelve pieces besides, as many as there are lanes: while a lane waits for
+/// a processor with a node under its announcement, the others pop on, and what they pop is freed behind that node. It
+/// needn't be enough. A step for each piece.
 fn guess(alloc: Global, work: &Work, lanes: u32) -> Result<u64, OutOfMemory>
     requires work { IsWork work.now }
     requires lanes { lanes ≤ most_lanes }
@@ -31,7 +34,10 @@ fn guess(alloc: Global, work: &Work, lanes: u32) -> Result<u64, OutOfMemory>
     let seats = u64::from(lanes) + 1;
     let mut slots = UNDER_WAY + 64 * seats * seats;
     if lanes > 1 {
-        slots = slots.saturating_add(count_pieces(work));
+        let waiting = u64::from(lanes).min(LANES_THAT_WAIT);
+        slots = slots.saturating_add(
+            (count_pieces(work) / LANES_THAT_WAIT).saturating_mul(waiting),
+        );
     }
     Ok(slots.saturating_add(count_distinct_slots(alloc, work)?))
 }
