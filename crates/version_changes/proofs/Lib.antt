@@ -1,0 +1,15 @@
+pub mod Results
+pub mod Altered
+pub mod Shown
+pub mod Levels
+pub mod Leasts
+pub mod Seen
+pub mod Mended
+pub mod Steps
+pub mod Refused
+pub mod Subtrees
+pub mod Rests
+pub mod Owning
+pub mod Glued
+pub mod Sides
+pub mod Published

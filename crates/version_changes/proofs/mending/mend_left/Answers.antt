@@ -1,0 +1,31 @@
+use Rattle.std.proofs.Common.{refl}
+use Rattle.version_making.specs.Keeping.{of_answer, of_both}
+use Rattle.version_changes.proofs.Mended.{beside_tree, changed_tree, left_mended, mended_keeps, refused_keeps}
+use Rattle.version_changes.proofs.mending.mend_left.Goals as goal
+
+pub join-requires-clause-trees : goal.join-requires-clause-trees
+join-requires-clause-trees c = (
+  changed_tree c.args.changed c.args.beside c.args.seat.now c.see_beside.new.seat c.requires.owned
+      c.in-Ok.ensures.keeps c.requires.trees.0,
+  beside_tree c.args.changed c.args.beside c.args.seat.now c.see_beside.new.seat c.requires.owned
+      c.in-Ok.ensures.keeps c.requires.trees.1,
+)
+
+pub returns-in-Ok-clause-mended : goal.returns-in-Ok-clause-mended
+returns-in-Ok-clause-mended c =
+    left_mended c.args.changed c.args.beside c.args.seat.now c.see_beside.new.seat c.requires.owned
+    c.in-Ok.ensures.keeps c.requires.trees.1 c.in-Ok.ensures.seen c.args.key c.args.value
+    c.join.result c.join.new.seat (of_both c.args.changed c.args.beside) (of_answer c.join.result)
+    c.join.ensures.keeps c.join.ensures.joined
+
+pub returns-in-Ok-clause-keeps : goal.returns-in-Ok-clause-keeps
+returns-in-Ok-clause-keeps c =
+    mended_keeps c.args.changed c.args.beside c.args.seat.now c.see_beside.new.seat
+    c.requires.owned c.in-Ok.ensures.keeps (of_both c.args.changed c.args.beside)
+    (of_answer c.join.result) c.join.new.seat c.join.ensures.keeps (λ x. refl)
+
+pub returns-in-Err-clause-keeps : goal.returns-in-Err-clause-keeps
+returns-in-Err-clause-keeps c =
+    refused_keeps c.args.changed c.args.beside c.args.seat.now c.see_beside.new.seat
+    c.requires.owned c.in-Err.ensures.keeps c.give_up.new.seat c.give_up-in-Err.new.seat
+    c.give_up.ensures.keeps c.give_up-in-Err.ensures.keeps

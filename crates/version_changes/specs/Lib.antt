@@ -1,0 +1,7 @@
+-- What callers cite of the crate below.
+pub use Rattle.version_making.specs as version_making
+-- Its own.
+pub mod Values
+pub mod Showing
+pub mod Keeping
+pub mod Changing

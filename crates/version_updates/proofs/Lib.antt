@@ -1,0 +1,9 @@
+pub mod Altering
+pub mod Loading
+pub mod Freezing
+pub mod Giving
+pub mod Beside
+pub mod Replacing
+pub mod Losing
+pub mod Showing
+pub mod Emptying
