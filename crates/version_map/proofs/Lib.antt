@@ -4,3 +4,6 @@ pub mod Values
 pub mod Again
 pub mod Ranges
 pub mod Scans
+pub mod Updates
+pub mod Altered
+pub mod Joined

@@ -2,3 +2,4 @@
 pub use Rattle.version_reading.specs as version_reading
 -- Its own.
 pub mod Maps
+pub mod Updating
