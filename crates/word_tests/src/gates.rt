@@ -1,7 +1,7 @@
 //! Which turns a run passes at its gate, and whether its lanes meet there.
 
-use crate::runs::{TWO, ended};
 use crossbeam_utils::atomic::AtomicCell;
+use run_players::{TWO, ended};
 use std::sync::Wait;
 use std::test::Fail;
 use words_work::{Gate, Meet};

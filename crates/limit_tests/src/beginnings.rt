@@ -3,7 +3,7 @@ ghost use Rattle.std.specs.Prelude.{◌≤◌, IfOk};
 ghost use Rattle.words_work.specs.Contents.{bytes_in, bytes_of};
 ghost use Rattle.words_work.specs.Limits.{most_bytes};
 
-use crate::runs::{TWO, files_of, words_of};
+use run_players::{TWO, files_of, words_of};
 use std::alloc::Global;
 use std::test::Fail;
 use words_work::{

@@ -1,8 +1,8 @@
 //! Runs past a limit, pieces within theirs, and how often objects are weighed.
 
-use crate::runs::{files_of, words_of};
 use cdrc_run::run;
 use crossbeam_utils::atomic::AtomicCell;
+use run_players::{files_of, words_of};
 use std::test::Fail;
 use words_work::{
     Deleter, HonestFiles, HonestSink, MemFiles, NodeKind, Open, PairKind, PayloadKind, PiecesError,
