@@ -29,11 +29,3 @@ returns-clause-free g c =
       none = λ j. ap (λ (v : CoreView). note_of v j) c.audit_by_number.ensures.stays.1.core ∙ none j;
       room = c.audit_by_number.ensures.room c.settle.ensures.room;
     }
-
-pub returns-in_err-ranks-clause-free : goal.returns-in_err-ranks-clause-free
-returns-in_err-ranks-clause-free g c = record {
-  rest = c.settle.ensures.rest;
-  none = none_settled c.args.root.now.view.core c.settle.new.seat.view.core
-      c.settle.ensures.same c.requires.free.none;
-  room = c.settle.ensures.room;
-}
