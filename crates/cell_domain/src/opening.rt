@@ -12,8 +12,8 @@ use epoch_refs::{EpochShape, OpenError, open_epoch};
 use lane_work::{OutOfMemory, Work, count_pieces};
 use std::alloc::Global;
 
-/// How many cells a head has that lanes may bind: with one for each, cells of words that all differ end up full, and walks
-/// along them are long.
+/// How many cells a head has that lanes may bind: with one for each, cells of words that all differ end up full, and
+/// walks along them are long.
 const CELLS_FOR_EACH: u64 = 2;
 
 /// Opens a domain for the work, with so many lanes and slots. Its cells hold the records of all words. The seat of a

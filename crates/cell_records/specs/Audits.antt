@@ -20,8 +20,8 @@ use Rattle.plain_audit.specs.plain_state.declared.image.Heap.{Heap}
 abbrev pub KnowsCells : DomainState CellLaw → SeatState View → Type 0
 KnowsCells d seat = KnowsLaw IsPiece d (Law (area_of d.protocol)) gone seat.view
 
--- Nothing waits in that state, and what is owned there is what the seat owns. No cell holds anything. This is its image,
--- and the audit found this of it.
+-- Nothing waits in that state, and what is owned there is what the seat owns. No cell holds anything. This is its
+-- image, and the audit found this of it.
 pub record IsAudited (d : DomainState CellLaw) (ranks : List ℕ) (seat : SeatState View)
     (image : Heap) (found : Audit) : Type 0 where
   pub law : KnowsCells d seat

@@ -8,7 +8,7 @@
 //! let records = find_records(rt, alloc, &domain, &mut root, &tallies)?;       // of each word that some tally counted
 //! learn_lives(&domain, &mut root);
 //! clear_cells(alloc, &domain, &mut root)?;
-//! let held = audit_at_rest(rt, alloc, &domain, &mut root, &weigh, &rank)?;    // what the seat owns lives, nothing else
+//! let held = audit_at_rest(rt, alloc, &domain, &mut root, &weigh, &rank)?;    // only what the seat owns lives
 //! let rows = count_rows(alloc, &held.image, records)?;                        // how many references each record has
 //! give_all(&domain, &mut root, kept);
 //! ```

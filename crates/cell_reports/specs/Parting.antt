@@ -26,8 +26,8 @@ AllRan [] (one ∷ done) = ⊥
 AllRan (ended ∷ ends) [] = ⊥
 AllRan (ended ∷ ends) (one ∷ done) = RanToEnd ended one × AllRan ends done
 
--- The seat has learnt that the heads that it put into cells have different texts. Its trail goes on, by no claim of a slot,
--- and nothing else has changed of what it has and what its view tells.
+-- The seat has learnt that the heads that it put into cells have different texts. Its trail goes on, by no claim of a
+-- slot, and nothing else has changed of what it has and what its view tells.
 pub record LearnsHeads (old new : SeatState View) : Type 0 where
   pub table : new.table ≡ old.table
   pub core : new.view.core ≡ record old.view.core { trail = new.view.core.trail }

@@ -1,9 +1,9 @@
 //! The audit of a running domain: what of its heap lives, what waits, and what only cycles of strong references keep.
 //!
-//! Once every other seat has left, seat 0 can read the whole heap. An audit of the slots that aren't free tells how many
-//! objects live, how many decrements are deferred, how many objects are unreached and what all of them weigh, and walks
-//! round a cycle where any is unreached. What is found is told of the plain state that the domain shows, in the words
-//! of `plain_audit`: no image stands in the contract.
+//! Once every other seat has left, seat 0 can read the whole heap. An audit of the slots that aren't free tells how
+//! many objects live, how many decrements are deferred, how many objects are unreached and what all of them weigh, and
+//! walks round a cycle where any is unreached. What is found is told of the plain state that the domain shows, in the
+//! words of `plain_audit`: no image stands in the contract.
 //!
 //! It asks for a seat that is alone, at rest, and has nothing dying: so no slot is on its way out, and the heap is
 //! lawful. What snapshots of the seat keep from being given up is deferred, and counts as reached. An audit changes

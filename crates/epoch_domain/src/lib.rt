@@ -2,10 +2,10 @@
 //!
 //! A domain is a table of words, and a seat is what one thread at a time steps with. Each call makes one atomic step,
 //! but for `open_region`, which makes two; and each step is one event of the table of events that `epoch_core` defines,
-//! under whatever protocol the client gives: its clause says which word the step found, what the seat has afterwards, and
-//! what the client's deed was told. So what `epoch_core` proves of all lists of events holds of every running domain,
-//! between any two steps of any threads, and so does the client's law: what an open region has seen is not destroyed
-//! before it is closed, and each object is destroyed at most once.
+//! under whatever protocol the client gives: its clause says which word the step found, what the seat has afterwards,
+//! and what the client's deed was told. So what `epoch_core` proves of all lists of events holds of every running
+//! domain, between any two steps of any threads, and so does the client's law: what an open region has seen is not
+//! destroyed before it is closed, and each object is destroyed at most once.
 //!
 //! Nothing is promised about which step comes next, nor when. A region that stays open keeps every later entry from
 //! being given up.

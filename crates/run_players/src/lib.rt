@@ -1,7 +1,7 @@
 //! Runs of the word program for tests: a command line over files and a sink in memory that fail where they are told to.
 //!
-//! A run is `run` of `cdrc_run` on the words of a line; what the sink took is handed back with how it ended. The rule that
-//! is kept: none of its own. Nothing is promised of how a run ends.
+//! A run is `run` of `cdrc_run` on the words of a line; what the sink took is handed back with how it ended. The rule
+//! that is kept: none of its own. Nothing is promised of how a run ends.
 //!
 //! ```text
 //! ended(&rt, alloc, "words --lanes 2 f g", &[], 99, &[], &Open)?     // the end, and what was written
@@ -25,10 +25,6 @@ const FILES: [(&str, &str); 5] = [
     ("r", "heap 1 0 0\nmake a 1\ndrop z"),
     ("t", "shape 1 1 0 0 4\n0 claim 0\n0 arm\n0 start"),
 ];
-
-/// The report of `f`.
-const A_B_A: &str = "2 1 a\n1 1 b\nfiles 1 pieces 3 distinct 2\n\
-    held live 2 deferred 0 cyclic 0 bytes 2\nfreed live 0 deferred 0 cyclic 0 bytes 0\n";
 
 /// The report of `f` and `g`.
 pub const TWO: &str = "2 1 a\n2 2 b\n1 1 c\n1 1 d\nfiles 2 pieces 6 distinct 4\n\

@@ -7,14 +7,13 @@ ghost use Rattle.version_making.specs.Standing.{IsTree};
 ghost use Rattle.version_changes.specs.Changing.{IsChanged, IsChangedHere, IsRefusal};
 ghost use Rattle.version_changes.specs.Keeping.{of_changed};
 
-use crate::giving::give_up;
 use crate::mending::{mend_left, mend_right};
 use crate::outcome::{ChangeError, Changed};
 use crate::putting::{change_here, change_null};
 use map_protocol::MapLaw;
 use map_trees::Change;
 use slot_store::{Domain, Seat, Strong};
-use version_making::{Opened, take_apart};
+use version_making::{Opened, give_up, take_apart};
 
 /// Changes one key of a subtree, which it takes over: a `Put` gives it this value, a `Bump` adds so much to its number,
 /// which begins with 0 and stops at 2^64 - 1, and a `Take` makes it absent. It answers the new subtree, balanced again,

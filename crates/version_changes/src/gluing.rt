@@ -5,12 +5,12 @@ ghost use Rattle.version_making.specs.Opening.{of_load};
 ghost use Rattle.version_making.specs.Standing.{IsTree};
 ghost use Rattle.version_changes.specs.Changing.{IsGlued, IsRefusal};
 
-use crate::giving::give_up;
 use crate::mending::mend_right;
 use crate::outcome::ChangeError;
 use crate::taking::take_least;
 use map_protocol::MapLaw;
 use slot_store::{Domain, Seat, Strong};
+use version_making::give_up;
 
 /// One balanced tree of two subtrees, which it takes over: the least pair of the right one comes up. Refused as
 /// `take_least` and `join` are, and then both are given up.

@@ -19,7 +19,6 @@
 #![tactic(auto)]
 
 mod changing;
-mod giving;
 mod gluing;
 mod laws;
 mod mending;

@@ -7,11 +7,10 @@ ghost use Rattle.version_making.specs.Keeping.{IsReadyFor, Keeps, OwnsBoth, of_a
 ghost use Rattle.version_making.specs.Standing.{IsTree, Stands};
 ghost use Rattle.version_changes.specs.Changing.{IsMended};
 
-use crate::giving::give_up;
 use crate::seeing::see_beside;
 use map_protocol::MapLaw;
 use slot_store::{Domain, MakeError, Seat, Strong};
-use version_making::join;
+use version_making::{give_up, join};
 
 /// Joins a left subtree that was changed with the right one beside it. The right one may be higher by 2 or more, and is
 /// opened then; the left one may be so where its pattern shows its top. Refused as `join` is, and both are given up

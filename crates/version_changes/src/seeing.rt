@@ -7,10 +7,9 @@ ghost use Rattle.version_making.specs.Keeping.{IsReadyFor, Keeps, OwnsBoth, none
 ghost use Rattle.version_making.specs.Standing.{IsSolid, IsTree};
 ghost use Rattle.version_changes.specs.Showing.{IsRead, IsSeen};
 
-use crate::giving::{give_up, height_at};
 use map_protocol::MapLaw;
 use slot_store::{Domain, MakeError, Seat, Strong};
-use version_making::{Opened, open_node, take_apart};
+use version_making::{Opened, give_up, height_at, open_node, take_apart};
 
 /// Sees the root of the subtree beside one that was changed, and the roots of its subtrees, if it is higher than the
 /// changed one by 2 or more: a join may ask for them then. At most 6 adds.

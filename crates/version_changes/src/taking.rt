@@ -6,12 +6,11 @@ ghost use Rattle.version_making.specs.Standing.{IsSolid};
 ghost use Rattle.version_changes.specs.Changing.{IsLeast, IsRefusal};
 ghost use Rattle.version_changes.specs.Keeping.{of_least};
 
-use crate::giving::give_up;
 use crate::mending::mend_left;
 use crate::outcome::{ChangeError, Least};
 use map_protocol::MapLaw;
 use slot_store::{Domain, Seat, Strong};
-use version_making::{Opened, take_apart};
+use version_making::{Opened, give_up, take_apart};
 
 /// The least pair of a node's subtree, which is taken over, and the subtree without it, balanced again. `TooLong` where
 /// the way to it has more nodes than `levels`. Refused besides as `join` is. Given up where it is refused. At most 3

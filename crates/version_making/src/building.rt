@@ -8,33 +8,16 @@ ghost use Rattle.map_law.specs.Nodes.{IsNode, words};
 ghost use Rattle.map_law.specs.Patterns.{Pattern, Spells, branch};
 ghost use Rattle.slot_store.specs.domain_rule.Views.{object_in};
 ghost use Rattle.slot_store.specs.counted_handles.Handles.{Handle};
-ghost use Rattle.version_making.specs.Building.{IsMaking, IsPut, IsWhy, Makes, capped, height_by, raw_of, with_tree};
+ghost use Rattle.version_making.specs.Building.{IsMaking, IsPut, IsWhy, Makes, capped, raw_of, with_tree};
 ghost use Rattle.version_making.specs.Keeping.{IsReadyFor, Keeps, OwnsBoth, none, of_answer, of_both, of_handle, of_slot};
 ghost use Rattle.version_making.specs.Standing.{IsSolid, IsTree, kid_by, node_in};
 
 use crate::deeds::{MakeNew, OpenSide, SetKid};
+use crate::giving::{give_up, height_at};
 use crate::node_words::node_words;
-use atomic_shared::{Place, drop_strong, store};
+use atomic_shared::{Place, store};
 use map_protocol::MapLaw;
-use slot_store::{Domain, EventPlace, MakeError, Seat, SlotId, Strong, make, read};
-
-/// The height that the node of a handle keeps, and 0 where it is null. At most one step.
-pub(crate) fn height_at(
-    domain: &Domain<MapLaw>,
-    seat: &mut Seat<MapLaw>,
-    kid: &Option<Strong>,
-) -> u64
-    requires ready { IsReadyFor domain.now seat.old }
-    requires owned { (x : SlotId) → of_handle kid.now x ≤ times x seat.old.view.core.owned }
-    ensures height { result ≡ height_by kid.now seat.old }
-    ensures keeps { Keeps 0 0 none none seat.old seat.new }
-    ensures ready { IsReadyFor domain.now seat.new }
-{
-    match kid {
-        None => 0,
-        Some(node) => read(domain, seat, node.slot(), 3),
-    }
-}
+use slot_store::{Domain, EventPlace, MakeError, Seat, SlotId, Strong, make};
 
 /// Makes a node with these words and null fields. Refused with the causes of `make`.
 fn make_node(
@@ -173,16 +156,4 @@ fn over(left: u64, right: u64) -> u64
 {
     let high = if left < right { right } else { left };
     if high == u64::MAX { high } else { high + 1 }
-}
-
-/// Gives up a reference, if there is one.
-pub(crate) fn give_up(domain: &Domain<MapLaw>, seat: &mut Seat<MapLaw>, tree: Option<Strong>)
-    requires ready { IsReadyFor domain.now seat.old }
-    requires owned { (x : SlotId) → of_handle tree x ≤ times x seat.old.view.core.owned }
-    ensures keeps { Keeps 0 0 (of_handle tree) none seat.old seat.new }
-    ensures ready { IsReadyFor domain.now seat.new }
-{
-    if let Some(node) = tree {
-        drop_strong(domain, seat, node);
-    }
 }

@@ -9,7 +9,8 @@ ghost use Rattle.version_making.specs.Joining.{IsJoined, IsLow, IsTilted, IsTurn
 ghost use Rattle.version_making.specs.Keeping.{IsReadyFor, Keeps, OwnsBoth, of_answer, of_both, of_handle, of_slot};
 ghost use Rattle.version_making.specs.Standing.{IsSolid, IsTree, Stands};
 
-use crate::building::{give_up, height_at, put_together};
+use crate::building::put_together;
+use crate::giving::{give_up, height_at};
 use crate::putting::{Item, put_both, put_left, put_right};
 use crate::taking_apart::take_apart;
 use map_protocol::MapLaw;

@@ -20,6 +20,7 @@
 
 mod building;
 mod deeds;
+mod giving;
 mod joining;
 mod node_words;
 mod opening;
@@ -29,6 +30,7 @@ mod taking_apart;
 
 pub use building::put_together;
 pub use deeds::{LoadRoot, MakeNew, OpenSide, SetKid};
+pub use giving::{give_up, height_at};
 pub use joining::join;
 pub use opening::{Opened, open_node};
 pub use rooting::load_root;

@@ -7,7 +7,8 @@ ghost use Rattle.version_making.specs.Building.{IsWhy, put_over};
 ghost use Rattle.version_making.specs.Keeping.{IsReadyFor, Keeps, of_answer, of_both, of_handle};
 ghost use Rattle.version_making.specs.Standing.{IsSolid, IsTree, Stands};
 
-use crate::building::{give_up, put_together};
+use crate::building::put_together;
+use crate::giving::give_up;
 use map_protocol::MapLaw;
 use slot_store::{Domain, MakeError, Seat, Strong};
 

@@ -6,7 +6,7 @@ ghost use Rattle.version_making.specs.Keeping.{IsReadyFor, Keeps, none, of_both,
 ghost use Rattle.version_making.specs.Opening.{IsTaken};
 ghost use Rattle.version_making.specs.Standing.{IsSolid};
 
-use crate::building::give_up;
+use crate::giving::give_up;
 use crate::opening::{Opened, open_node};
 use map_protocol::MapLaw;
 use slot_store::{Domain, MakeError, Seat, Strong};

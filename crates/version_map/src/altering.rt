@@ -15,11 +15,12 @@ ghost use Rattle.version_updates.specs.Roots.{IsLowRoot};
 ghost use Rattle.version_map.specs.declared.outcome.UpdateError.TheVariants as error;
 ghost use Rattle.version_map.specs.Updating.{HasAltered, IsDone, IsStopped, SeesAnother, takes_nothing};
 
-use crate::handles::{copy_root, give_up, height_at};
+use crate::handles::copy_root;
 use crate::outcome::UpdateError;
 use map_protocol::MapLaw;
 use slot_store::{Domain, MakeError, Seat, Strong};
 use version_changes::{Change, ChangeError, Changed, change_below};
+use version_making::{give_up, height_at};
 use version_updates::{Lost, Update, publish, still_root};
 
 /// Changes one key of the version of a root, which it takes over, and publishes the new version. Nothing is published
@@ -104,8 +105,8 @@ fn change_copy(
     }
 }
 
-/// Publishes a new version in the place of the one of a root, or leaves both where the update changes nothing. Takes both
-/// roots over.
+/// Publishes a new version in the place of the one of a root, or leaves both where the update changes nothing. Takes
+/// both roots over.
 fn publish_change(
     domain: &Domain<MapLaw>,
     seat: &mut Seat<MapLaw>,

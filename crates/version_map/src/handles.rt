@@ -3,43 +3,12 @@ ghost use Rattle.std.specs.Prelude.{◌≡◌, ◌≤◌, ◌<◌, IfOk, OnErr, 
 ghost use Rattle.map_law.specs.plain_state.Lists.{times};
 ghost use Rattle.map_law.specs.plain_state.declared.slot.SlotId.{SlotId};
 ghost use Rattle.slot_store.specs.control_word.Resting.{IsSpent};
-ghost use Rattle.version_making.specs.Building.{height_by};
 ghost use Rattle.version_making.specs.Keeping.{IsReadyFor, Keeps, none, of_handle};
 ghost use Rattle.version_making.specs.Opening.{of_load};
 
 use map_protocol::MapLaw;
-use protected_loads::{Spent, copy_strong, drop_strong};
-use slot_store::{Domain, Seat, Strong, read};
-
-/// Gives up a reference, if there is one.
-pub(crate) fn give_up(domain: &Domain<MapLaw>, seat: &mut Seat<MapLaw>, tree: Option<Strong>)
-    requires ready { IsReadyFor domain.now seat.old }
-    requires owned { (x : SlotId) → of_handle tree x ≤ times x seat.old.view.core.owned }
-    ensures keeps { Keeps 0 0 (of_handle tree) none seat.old seat.new }
-    ensures ready { IsReadyFor domain.now seat.new }
-{
-    if let Some(node) = tree {
-        drop_strong(domain, seat, node);
-    }
-}
-
-/// The height that a root keeps, and 0 where it is null. At most one step.
-pub(crate) fn height_at(
-    domain: &Domain<MapLaw>,
-    seat: &mut Seat<MapLaw>,
-    root: &Option<Strong>,
-) -> u64
-    requires ready { IsReadyFor domain.now seat.old }
-    requires owned { (x : SlotId) → of_handle root.now x ≤ times x seat.old.view.core.owned }
-    ensures height { result ≡ height_by root.now seat.old }
-    ensures keeps { Keeps 0 0 none none seat.old seat.new }
-    ensures ready { IsReadyFor domain.now seat.new }
-{
-    match root {
-        None => 0,
-        Some(node) => read(domain, seat, node.slot(), 3),
-    }
-}
+use protected_loads::{Spent, copy_strong};
+use slot_store::{Domain, Seat, Strong};
 
 /// One more reference to a root, if there is one. Refused exactly where it would use an add and none is left. At most
 /// one step, and one add.

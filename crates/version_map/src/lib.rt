@@ -11,8 +11,8 @@
 //! and makes no object, so it is never refused for a quota.
 //!
 //! An update makes the nodes on one way down anew, over a reference to the root that it loaded, and puts the new root
-//! into the cell by one exchange. It is refused where another seat was quicker, with the two words that the cell showed,
-//! or where the seat's makes or adds, or the domain's slots, are used up; then nothing has changed.
+//! into the cell by one exchange. It is refused where another seat was quicker, with the two words that the cell
+//! showed, or where the seat's makes or adds, or the domain's slots, are used up; then nothing has changed.
 //!
 //! It isn't promised that a version is still the map's when a call returns, that an update succeeds, nor that a call
 //! which may wait returns. No update tries again by itself.

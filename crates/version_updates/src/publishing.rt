@@ -5,11 +5,12 @@ ghost use Rattle.atomic_shared.specs.Places.{named};
 ghost use Rattle.version_making.specs.Keeping.{IsReadyFor, Keeps, OwnsBoth, none, of_both};
 ghost use Rattle.version_updates.specs.Publishing.{IsLost, IsPublished, MakesVersion, but_for, entries_by};
 
-use crate::handles::{give_up, slot_of};
+use crate::handles::slot_of;
 use crate::update::{Lost, Update};
 use atomic_shared::{Place, try_replace};
 use map_protocol::{MapLaw, PublishTree};
 use slot_store::{Domain, Seat, Strong, held_as};
+use version_making::give_up;
 
 /// Puts the root of a new version into the root cell, where that still holds the root of the version that the new one
 /// was made of. The map has the change from that exchange on, and the seat one entry more, with the answer. `Lost`

@@ -3,7 +3,7 @@ use Rattle.map_law.specs.plain_state.Lists.{times}
 use Rattle.version_making.specs.Keeping.{of_handle}
 use Rattle.version_making.proofs.Dropped.{keeps_dropped}
 use Rattle.version_making.proofs.Own.{handle_owned}
-use Rattle.version_making.proofs.building.give_up.Goals as goal
+use Rattle.version_making.proofs.giving.give_up.Goals as goal
 
 pub drop_strong-requires-clause-owned : goal.drop_strong-requires-clause-owned
 drop_strong-requires-clause-owned c =

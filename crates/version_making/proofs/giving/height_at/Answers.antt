@@ -2,7 +2,7 @@ use Rattle.std.proofs.Common.{arith, subst, sym, ◌≤◌, ◌<◌}
 use Rattle.map_law.specs.plain_state.Lists.{times}
 use Rattle.version_making.specs.Keeping.{of_handle}
 use Rattle.version_making.proofs.Own.{handle_owned}
-use Rattle.version_changes.proofs.giving.height_at.Goals as goal
+use Rattle.version_making.proofs.giving.height_at.Goals as goal
 
 pub read-requires-clause-holds : goal.read-requires-clause-holds
 read-requires-clause-holds c =
