@@ -24,11 +24,7 @@ pub fn give_up(domain: &Domain<MapLaw>, seat: &mut Seat<MapLaw>, tree: Option<St
 }
 
 /// The height that the root of a subtree keeps, and 0 where the subtree is empty. At most one step.
-pub fn height_at(
-    domain: &Domain<MapLaw>,
-    seat: &mut Seat<MapLaw>,
-    tree: &Option<Strong>,
-) -> u64
+pub fn height_at(domain: &Domain<MapLaw>, seat: &mut Seat<MapLaw>, tree: &Option<Strong>) -> u64
     requires ready { IsReadyFor domain.now seat.old }
     requires owned { (x : SlotId) → of_handle tree.now x ≤ times x seat.old.view.core.owned }
     ensures height { result ≡ height_by tree.now seat.old }

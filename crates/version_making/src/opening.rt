@@ -7,8 +7,8 @@ ghost use Rattle.version_making.specs.Keeping.{IsReadyFor, Keeps, none, of_both}
 ghost use Rattle.version_making.specs.Opening.{IsOpened, IsSide, of_load};
 ghost use Rattle.version_making.specs.Standing.{IsSolid};
 
-use crate::giving::give_up;
 use crate::deeds::OpenSide;
+use crate::giving::give_up;
 use atomic_shared::Spent;
 use map_protocol::MapLaw;
 use protected_loads::{Kind, Still};
