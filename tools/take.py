@@ -1,10 +1,11 @@
 #!/usr/bin/env python3
 """Copies crates, and all crates below them, into another repository, without what was built of them.
 
-    tools/take.py NAME.. FOLDER
+    tools/take.py [--update] [--without-tests] NAME.. FOLDER
 
 FOLDER is the top of that repository. Its crates.txt gets the lines of crates that it doesn't have yet. A crate whose
-folder is there already stays as it is.
+folder is there already stays as it is; with --update it is replaced, with its line, and loses what was changed in it.
+With --without-tests the wrong bodies that only a gate tries are left out, the folders must-fail and plants.
 """
 import re
 import shutil
@@ -29,16 +30,20 @@ def with_below(names, lines):
     return [name for name in lines if name in taken]
 
 
-def take(names, folder):
-    """Copies what isn't there yet, and returns the crates that it copied."""
+def take(names, folder, update=False, tests=True):
+    """Copies what isn't there yet, with `update` also what is, and returns the crates that it copied."""
     lines, list_of_crates = lines_of((TOP / "crates.txt").read_text()), folder / "crates.txt"
     if not names or not set(names) <= lines.keys():
         sys.exit(__doc__)
     needed = with_below(names, lines)
-    taken = [name for name in needed if not (folder / "crates" / name).exists()]
+    taken = [name for name in needed if update or not (folder / "crates" / name).exists()]
+    left_out = shutil.ignore_patterns("out", *([] if tests else ["must-fail", "plants"]))
     for name in taken:
-        shutil.copytree(TOP / "crates" / name, folder / "crates" / name, ignore=shutil.ignore_patterns("out"))
+        shutil.rmtree(folder / "crates" / name, ignore_errors=True)
+        shutil.copytree(TOP / "crates" / name, folder / "crates" / name, ignore=left_out)
     there = list_of_crates.read_text() if list_of_crates.exists() else ""
+    if update:
+        there = "".join(with_line(line, lines, taken) + "\n" for line in there.splitlines())
     new = [lines[name] for name in needed if name not in lines_of(there)]
     if there and not there.endswith("\n"):
         there += "\n"
@@ -46,7 +51,21 @@ def take(names, folder):
     return taken
 
 
-if __name__ == "__main__":
-    if len(sys.argv) < 3 or not Path(sys.argv[-1]).is_dir():
+def with_line(line, lines, taken):
+    """A line of the other repository's crates.txt, and in the place of a crate's that was taken the line here."""
+    name = next(iter(lines_of(line)), None)
+    return lines[name] if name in taken else line
+
+
+def main(words):
+    options = {word for word in words if word.startswith("--")}
+    names = [word for word in words if word not in options]
+    if options - {"--update", "--without-tests"} or len(names) < 2 or not Path(names[-1]).is_dir():
         sys.exit(__doc__)
-    print(*take(sys.argv[1:-1], Path(sys.argv[-1])), sep="\n")
+    if Path(names[-1]).resolve() == TOP:
+        sys.exit("take: FOLDER is this repository")
+    print(*take(names[:-1], Path(names[-1]), "--update" in options, "--without-tests" not in options), sep="\n")
+
+
+if __name__ == "__main__":
+    main(sys.argv[1:])
