@@ -65,7 +65,8 @@ pub(crate) fn read<R: Wait>(
 ) -> Option<u64>
     requires plays { Plays domain.now seat.old }
     requires over { IsOver 0 domain.now }
-    ensures { Plays domain.now seat.new }
+    ensures plays { Plays domain.now seat.new }
+    ensures number { seat.new.view.core.seat ≡ seat.old.view.core.seat }
 {
     MAP.get(rt, domain, seat, key)
 }

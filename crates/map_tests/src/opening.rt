@@ -1,5 +1,5 @@
 //! Domains with a map, and their seats.
-ghost use Rattle.std.specs.Prelude.{◌≡◌, ◌+◌, ◌<◌, All, IfOk, IfSome, length};
+ghost use Rattle.std.specs.Prelude.{◌≡◌, All, IfOk, IfSome};
 ghost use Rattle.version_map.specs.Playing.{Plays};
 ghost use Rattle.version_map.specs.version_reading.Reading.{IsOver};
 
@@ -26,8 +26,6 @@ pub(crate) fn open(
     ensures root { IfOk result (λ opened. Plays opened.domain opened.root
         × (opened.root.view.core.seat ≡ 0)) }
     ensures others { IfOk result (λ opened. All (Plays opened.domain) opened.others.items) }
-    ensures left { IfOk result (λ opened. (length opened.root.view.core.left_seats ≡ 0)
-        × (length opened.others.items + 1 ≡ opened.domain.shape.seats)) }
 {
     let shape = Shape {
         seats,
@@ -36,7 +34,8 @@ pub(crate) fn open(
         weak_cells: 0,
         batch: 16,
     };
-    open_seats(alloc, shape, quota, WIDE, MapLaw::over(0))
+    let opened = open_seats(alloc, shape, quota, WIDE, MapLaw::over(0))?;
+    Ok(opened)
 }
 
 /// The last of these seats.

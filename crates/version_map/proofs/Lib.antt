@@ -8,3 +8,4 @@ pub mod Updates
 pub mod Altered
 pub mod Joined
 pub mod Retries
+pub mod Playing

@@ -4,3 +4,4 @@ pub use Rattle.version_reading.specs as version_reading
 pub mod Maps
 pub mod Updating
 pub mod Retrying
+pub mod Playing

@@ -41,7 +41,7 @@ mod taking_ranges;
 mod updating;
 mod waiting;
 
-pub use laws::updates_leave_the_rest;
+pub use laws::{a_seat_plays_on, updates_leave_the_rest};
 pub use map::{Moved, VersionMap};
 pub use outcome::UpdateError;
 pub use version_changes::Change;
