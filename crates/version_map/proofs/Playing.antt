@@ -32,7 +32,7 @@ module _ {P : Type 0} (d : DomainState P) (a : SeatState View) where
   begins n rest room notes client = record {
     ready = record { rest = rest; room = room; here = ap (λ (v : View). v.here) client };
     notes = notes;
-    open = ap (λ (v : View). v.cleared) client;
+    uncleared = ap (λ (v : View). v.cleared) client;
   }
 
   pub has_read : (b : SeatState View) → Plays d a → Reads a.view.core a b → IsAtRest d b → Plays d b
@@ -43,13 +43,13 @@ module _ {P : Type 0} (d : DomainState P) (a : SeatState View) where
       here = ap (λ (v : View). v.here) reads.learns.same ∙ plays.ready.here;
     };
     notes = ap (λ (v : CoreView). v.notes) reads.core ∙ plays.notes;
-    open = ap (λ (v : View). v.cleared) reads.learns.same ∙ plays.open;
+    uncleared = ap (λ (v : View). v.cleared) reads.learns.same ∙ plays.uncleared;
   }
 
   pub has_updated : (b : SeatState View) → Plays d a → LeavesSome a b
       → b.view.client.cleared ≡ false → IsReadyFor d b → Plays d b
-  has_updated b plays leaves open ready = record {
+  has_updated b plays leaves uncleared ready = record {
     ready = ready;
     notes = ap (λ (v : CoreView). v.notes) leaves.keeps.same ∙ plays.notes;
-    open = open;
+    uncleared = uncleared;
   }

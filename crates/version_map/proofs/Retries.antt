@@ -15,7 +15,7 @@ use Rattle.version_map.specs.Updating.{Leaves}
 -- A seat that has tried, and may try again.
 pub record MayTry (d : DomainState MapLaw) (c : ℕ) (old now : SeatState View) : Type 0 where
   pub tried : HasTried d c old now
-  pub open : now.view.client.cleared ≡ false
+  pub uncleared : now.view.client.cleared ≡ false
   pub ready : IsReadyFor d now
 
 -- the view of a seat apart from its entries is that of the seat where these are as they were
@@ -47,17 +47,17 @@ pub none_tried : (d : DomainState MapLaw) (c : ℕ) (a : SeatState View)
     → IsReadyFor d a × (a.view.client.cleared ≡ false) → MayTry d c a a
 none_tried d c a can = record {
   tried = record { makes = 0; adds = 0; keeps = keeps_none a; first = inl refl };
-  open = can.1;
+  uncleared = can.1;
   ready = can.0;
 }
 
 -- A LOST TRY more
 module _ (d : DomainState MapLaw) (c : ℕ) (a b : SeatState View) (may : MayTry d c a b)
-    (s : SeatState View) (lost : IsLostTry d c b s) (open : s.view.client.cleared ≡ false) where
+    (s : SeatState View) (lost : IsLostTry d c b s) (uncleared : s.view.client.cleared ≡ false) where
   try_keeps : Keeps (lost.leaves.height * 3 + 1) (lost.leaves.height * 15 + 3) none none b s
   try_keeps =
       keeps_whole (lost.leaves.height * 3 + 1) (lost.leaves.height * 15 + 3) b s
-      lost.again.entries (open ∙ sym may.open) lost.leaves.keeps
+      lost.again.entries (uncleared ∙ sym may.uncleared) lost.leaves.keeps
 
   first_lost : (b ≡ a) ⊎ HasLostOne d c a b → HasLostOne d c a s
   first_lost (inl same) = record {
@@ -81,7 +81,7 @@ module _ (d : DomainState MapLaw) (c : ℕ) (a b : SeatState View) (may : MayTry
           try_keeps (λ x. (omega arith, omega arith, omega arith));
       first = inr (first_lost may.tried.first);
     };
-    open = open;
+    uncleared = uncleared;
     ready = ready;
   }
 

@@ -11,4 +11,4 @@ use Rattle.version_making.specs.Keeping.{IsReadyFor}
 pub record Plays {P : Type 0} (d : DomainState P) (seat : SeatState View) : Type 0 where
   pub ready : IsReadyFor d seat
   pub notes : seat.view.core.notes ≡ no_notes
-  pub open : seat.view.client.cleared ≡ false
+  pub uncleared : seat.view.client.cleared ≡ false
