@@ -7,3 +7,5 @@ pub mod Scans
 pub mod Updates
 pub mod Altered
 pub mod Joined
+pub mod Retries
+pub mod Playing

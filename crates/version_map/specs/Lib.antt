@@ -3,3 +3,5 @@ pub use Rattle.version_reading.specs as version_reading
 -- Its own.
 pub mod Maps
 pub mod Updating
+pub mod Retrying
+pub mod Playing

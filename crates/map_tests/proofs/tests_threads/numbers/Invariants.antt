@@ -1,0 +1,6 @@
+use Rattle.std.specs.Prelude.{◌≡◌}
+use Rattle.version_map.specs.Playing.{Plays}
+use Rattle.map_tests.proofs.tests_threads.numbers.Given as goal
+
+abbrev pub invariant-loop-key : goal.invariant-loop-key
+invariant-loop-key g l = Plays l.domain l.seat × (l.seat.view.core.seat ≡ 0)
