@@ -115,11 +115,10 @@ pub one_leaves : (d : DomainState MapLaw) (c : ℕ) (a b : SeatState View) → L
 one_leaves d c a b leaves =
     some_by (leaves.height * 3 + 1) (leaves.height * 15 + 3) a b leaves.keeps
 
-pub last_leaves : (d : DomainState MapLaw) (c : ℕ)
-    (did : SeatState View → SeatState View → Type 0) (a b : SeatState View) → AtLast d c did a b
-    → LeavesSome a b
-last_leaves d c did a b last =
-    some_then a last.mid b
-    (some_by last.tried.makes last.tried.adds a last.mid
-    (keeps_all_but last.tried.makes last.tried.adds none none a last.mid last.tried.keeps))
-    (one_leaves d c last.mid b last.leaves)
+pub last_leaves : (d : DomainState MapLaw) (c : ℕ) (a mid b : SeatState View)
+    → HasTried d c a mid → Leaves d c mid b → LeavesSome a b
+last_leaves d c a mid b tried leaves =
+    some_then a mid b
+    (some_by tried.makes tried.adds a mid
+    (keeps_all_but tried.makes tried.adds none none a mid tried.keeps))
+    (one_leaves d c mid b leaves)

@@ -12,7 +12,7 @@ ghost use Rattle.version_making.specs.Keeping.{IsReadyFor};
 ghost use Rattle.version_reading.specs.Reading.{Reads};
 ghost use Rattle.version_map.specs.Maps.{CanRead};
 ghost use Rattle.version_map.specs.Playing.{Plays};
-ghost use Rattle.version_map.specs.Retrying.{AtLast, LeavesSome};
+ghost use Rattle.version_map.specs.Retrying.{HasTried, LeavesSome};
 ghost use Rattle.version_map.specs.Updating.{Leaves};
 
 /// What the calls `try_update` and `update` leave of a seat but for its entries, and that several of them in turn leave
@@ -20,9 +20,8 @@ ghost use Rattle.version_map.specs.Updating.{Leaves};
 pub fn updates_leave_the_rest()
     ensures one { (d : DomainState Maps) (c : ℕ) (old new : SeatState View) → Leaves d c old new
         → LeavesSome old new }
-    ensures last { (d : DomainState Maps) (c : ℕ)
-        (did : SeatState View → SeatState View → Type 0) (old new : SeatState View)
-        → AtLast d c did old new → LeavesSome old new }
+    ensures last { (d : DomainState Maps) (c : ℕ) (old mid new : SeatState View)
+        → HasTried d c old mid → Leaves d c mid new → LeavesSome old new }
     ensures more { (old mid new : SeatState View) → LeavesSome old mid → LeavesSome mid new
         → LeavesSome old new }
 {}
