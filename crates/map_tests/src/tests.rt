@@ -66,7 +66,10 @@ const ROWS: [(Turn, Said); 22] = [
     (Turn::Next(4), Said::Pair(Some((9, 4)))),
     (Turn::Next(10), Said::Pair(Some((u64::MAX, 1)))),
     (Turn::Change(4, Change::Take), Said::Value(None)),
-    (Turn::Change(9, Change::Bump(u64::MAX)), Said::Value(Some(4))),
+    (
+        Turn::Change(9, Change::Bump(u64::MAX)),
+        Said::Value(Some(4)),
+    ),
     (Turn::Get(9), Said::Value(Some(u64::MAX))),
     (Turn::Change(9, Change::Put(8)), Said::Value(Some(u64::MAX))),
     (Turn::Change(3, Change::Take), Said::Value(Some(0))),
