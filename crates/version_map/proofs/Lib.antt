@@ -7,3 +7,4 @@ pub mod Scans
 pub mod Updates
 pub mod Altered
 pub mod Joined
+pub mod Retries

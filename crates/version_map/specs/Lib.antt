@@ -3,3 +3,4 @@ pub use Rattle.version_reading.specs as version_reading
 -- Its own.
 pub mod Maps
 pub mod Updating
+pub mod Retrying

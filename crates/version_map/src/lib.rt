@@ -28,16 +28,20 @@
 #![tactic(auto)]
 
 mod altering;
+mod clearing;
 mod handles;
+mod laws;
 mod map;
 mod outcome;
 mod reading;
+mod retrying;
 mod scanning;
 mod searching;
 mod taking_ranges;
 mod updating;
 mod waiting;
 
+pub use laws::updates_leave_the_rest;
 pub use map::{Moved, VersionMap};
 pub use outcome::UpdateError;
 pub use version_changes::Change;

@@ -1,0 +1,14 @@
+-- A seat between its calls on a map.
+use Rattle.std.specs.Prelude.{◌≡◌, false}
+use Rattle.map_law.specs.declared.view.View.{View}
+use Rattle.slot_store.specs.core_events.Views.{no_notes}
+use Rattle.slot_store.specs.acquire_retire.Domains.{DomainState}
+use Rattle.slot_store.specs.acquire_retire.Seats.{SeatState}
+use Rattle.version_making.specs.Keeping.{IsReadyFor}
+
+-- It may begin each call on the map: it is in no call, announces nothing, has room for what a store retires, takes part in
+-- the map, and hasn't cleared it.
+pub record Plays {P : Type 0} (d : DomainState P) (seat : SeatState View) : Type 0 where
+  pub ready : IsReadyFor d seat
+  pub notes : seat.view.core.notes ≡ no_notes
+  pub open : seat.view.client.cleared ≡ false
