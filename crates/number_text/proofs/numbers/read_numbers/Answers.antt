@@ -1,4 +1,4 @@
-use Rattle.std.proofs.Common.{◌≡◌, ◌≤◌, length, sym, ap, ◌∙◌, arith}
+use Rattle.std.proofs.Common.{length, sym, ap, ◌∙◌, arith}
 use Rattle.cdrc_text.specs.Pieces.{fields_of}
 use Rattle.number_text.proofs.Reading.{reading-end, reading-full, reading-push, reading-skip, reading-start, skipped-fits}
 use Rattle.number_text.proofs.numbers.read_numbers.Goals as goal
