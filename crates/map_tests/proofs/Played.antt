@@ -5,7 +5,7 @@ use Rattle.slot_store.specs.core_events.Steps.{HasRoom}
 use Rattle.slot_store.specs.acquire_retire.Domains.{DomainState}
 use Rattle.slot_store.specs.acquire_retire.Seats.{SeatState}
 use Rattle.slot_store.specs.control_word.Resting.{IsAtRest}
-use Rattle.map_law.specs.declared.view.View.{View}
+use Rattle.map_protocol.specs.map_law.declared.view.View.{View}
 use Rattle.seat_life.specs.Free.{IsFree}
 use Rattle.version_map.specs.Playing.{Plays}
 

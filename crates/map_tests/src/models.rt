@@ -34,8 +34,8 @@ pub(crate) fn is_range(
     found: &[(u64, u64)],
 ) -> bool {
     let mut count: usize = 0;
-    for (key, value) in model.range(low..=high) {
-        if count >= room {
+    for (key, value) in model.range(low..) {
+        if *key > high || count >= room {
             break;
         }
         if count >= found.len() || found[count] != (*key, *value) {
