@@ -70,8 +70,8 @@ def try_beside_tests(folder, crate, plant):
     text = file.read_text()
     for old, new in pairs:
         file.write_text(file.read_text().replace(old, new))
-    words = ["rt", "check", crate, "--test", "--only", file.stem]
-    tried = subprocess.run(words, cwd=folder, capture_output=True, text=True)
+    words = ["rt", "check", "--test", "--only", file.stem]
+    tried = subprocess.run(words, cwd=folder / "crates" / crate, capture_output=True, text=True)
     file.write_text(text)
     last = next(iter(re.findall(r"(?m)^only=\d+ proved=\d+$", tried.stdout)), "no verdict")
     asked, _, proved = last.removeprefix("only=").partition(" proved=")

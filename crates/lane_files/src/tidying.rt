@@ -15,10 +15,10 @@ const MOST_REAPS: u32 = 4;
 /// How many seats a domain has whose words one lane counts: seat 0's and the lane's.
 const SEATS_OF_ONE_LANE: u32 = 2;
 
-/// Collects, which is a whole scan, and then destroys what is dying, four objects at most. Where other lanes work too, a
-/// collect follows each: a node that was popped holds the next one, so that this one can end only then, and what one lane
-/// pops, another may have to destroy. A collect is at most a step for each announcement word and three for each retired
-/// entry, and each object at most 21 steps and four collects.
+/// Collects, which is a whole scan, and then destroys what is dying, four objects at most. Where other lanes work too,
+/// a collect follows each: a node that was popped holds the next one, so that this one can end only then, and what one
+/// lane pops, another may have to destroy. A collect is at most a step for each announcement word and three for each
+/// retired entry, and each object at most 21 steps and four collects.
 pub fn tidy<F: Fn(&[u64; 16]) -> u64>(
     domain: &Domain<WordsLaw>,
     seat: &mut Seat<WordsLaw>,

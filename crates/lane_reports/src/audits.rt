@@ -55,7 +55,8 @@ fn audit_settled<F: Fn(&[u64; 16]) -> u64>(
         ⟦<PairKind<NodeKind, RecordKind> as PayloadKind>⟧.weight F.Fn weigh.now }
     ensures found { IfOk result (λ audit. IfSome audit
         (IsAudited ⟦<PairKind<NodeKind, RecordKind> as PayloadKind>⟧.fits
-        ⟦<PairKind<NodeKind, RecordKind> as PayloadKind>⟧.weight (numbers domain.now.shape.slots) domain.now root.new)) }
+        ⟦<PairKind<NodeKind, RecordKind> as PayloadKind>⟧.weight
+        (numbers domain.now.shape.slots) domain.now root.new)) }
     ensures settled { HasNothingDeferred root.new.view.core }
     ensures same { rest_of root.new.view.core ≡ rest_of root.old.view.core }
     ensures objects { KnowsOwned root.old root.new }

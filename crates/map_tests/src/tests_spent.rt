@@ -20,10 +20,10 @@ const KEYS: u64 = 10;
 
 /// An update of that map, what its key has before, and how many makes and adds it takes.
 ///
-/// The keys came in ascending order, so 4 is over 2 and 8, 2 over 1 and 3, 8 over 6 and 9, 6 over 5 and 7, and 9 over 10
-/// on its right. Of the makes there is one for each node on the way, one for a new node, and one more for the node that a
-/// rotation makes anew. The adds are one to load the root, one to keep it, one for each subtree of a node that is opened,
-/// and one for each make.
+/// The keys came in ascending order, so 4 is over 2 and 8, 2 over 1 and 3, 8 over 6 and 9, 6 over 5 and 7, and 9 over
+/// 10 on its right. Of the makes there is one for each node on the way, one for a new node, and one more for the node
+/// that a rotation makes anew. The adds are one to load the root, one to keep it, one for each subtree of a node that
+/// is opened, and one for each make.
 #[derive(Clone, Copy, Drop)]
 struct Trial {
     key: u64,

@@ -9,8 +9,8 @@ use atomic_shared::drop_strong;
 use map_protocol::MapLaw;
 use slot_store::{Domain, Seat, Strong, read};
 
-/// Gives up a reference to a node, if there is one. What the seat knows of the map stays. At most one step, and a collect
-/// where one is due then.
+/// Gives up a reference to a node, if there is one. What the seat knows of the map stays. At most one step, and a
+/// collect where one is due then.
 pub fn give_up(domain: &Domain<MapLaw>, seat: &mut Seat<MapLaw>, tree: Option<Strong>)
     requires ready { IsReadyFor domain.now seat.old }
     requires owned { (x : SlotId) → of_handle tree x ≤ times x seat.old.view.core.owned }

@@ -6,8 +6,8 @@ use Rattle.slot_store.specs.acquire_retire.Domains.{DomainState}
 use Rattle.slot_store.specs.acquire_retire.Seats.{SeatState}
 use Rattle.version_making.specs.Keeping.{IsReadyFor}
 
--- It may begin each call on the map: it is in no call, announces nothing, has room for what a store retires, takes part in
--- the map, and hasn't cleared it.
+-- It may begin each call on the map: it is in no call, announces nothing, has room for what a store retires, takes part
+-- in the map, and hasn't cleared it.
 pub record Plays {P : Type 0} (d : DomainState P) (seat : SeatState View) : Type 0 where
   pub ready : IsReadyFor d seat
   pub notes : seat.view.core.notes ≡ no_notes

@@ -21,8 +21,8 @@ pub record HasLostOne (d : DomainState MapLaw) (c : ℕ) (old mid : SeatState Vi
   pub lost : IsLostTry d c old next
   pub goes : GoesOn next.view.core mid.view.core
 
--- Before the last try there was none, or the first one was lost. The seat has then what it had, its entries too, and has
--- used some makes and adds.
+-- Before the last try there was none, or the first one was lost. The seat has then what it had, its entries too, and
+-- has used some makes and adds.
 pub record HasTried (d : DomainState MapLaw) (c : ℕ) (old mid : SeatState View) : Type 0 where
   pub makes : ℕ
   pub adds : ℕ
@@ -37,8 +37,8 @@ pub record AtLast (d : DomainState MapLaw) (c : ℕ)
   pub did_last : did mid new
   pub leaves : Leaves d c mid new
 
--- What updates leave, one or several in turn: the seat has what it had, but for its entries, and has used some makes and
--- adds.
+-- What updates leave, one or several in turn: the seat has what it had, but for its entries, and has used some makes
+-- and adds.
 pub record LeavesSome (old new : SeatState View) : Type 0 where
   pub makes : ℕ
   pub adds : ℕ

@@ -14,10 +14,10 @@ use weak_part_calls::{Domain, Seat};
 
 impl Subject {
     /// Sends a delivery of this event to the observer of each id that lives, in ascending order of ids, and writes down
-    /// each id's fate. It stops at the first id for which an increment found the adds of the seat used up, or `make` or a
-    /// push was refused: the ids below it have their fates, for it and the others nothing was pushed, and what was made or
-    /// held is given up. Of what the seat knows of observers nothing changes but what it made and addressed. Two makes at
-    /// most for each id. It may wait for other threads.
+    /// each id's fate. It stops at the first id for which an increment found the adds of the seat used up, or `make` or
+    /// a push was refused: the ids below it have their fates, for it and the others nothing was pushed, and what was
+    /// made or held is given up. Of what the seat knows of observers nothing changes but what it made and addressed.
+    /// Two makes at most for each id. It may wait for other threads.
     pub fn publish<Q: HandQueue, R: Wait>(
         &self,
         rt: &R,
