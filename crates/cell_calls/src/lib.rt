@@ -17,3 +17,6 @@ pub use cell_protocol::{
     BindCell, CellLaw, ClearCell, FindText, LinkPart, LookCell, MakePiece, ReadPart,
 };
 pub use laws::calls_keep_in_turn;
+
+// What its callers take with it.
+pub use cell_protocol::RecordKind;

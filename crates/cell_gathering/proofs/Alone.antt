@@ -5,12 +5,12 @@ use Rattle.std.proofs.lemmas.List.{append-nil, get_or_at, length-append, length-
 use Rattle.std.proofs.lemmas.List.FromFn.{length-range_with_len}
 use Rattle.cell_lanes.specs.cell_calls.cell_protocol.declared.law.CellLaw.{CellLaw}
 use Rattle.cell_rest.specs.cell_law.declared.view.View.{View}
-use Rattle.epoch_refs.specs.epoch_core.declared.shape.EpochShape.{EpochShape}
-use Rattle.epoch_refs.specs.epoch_core.declared.view.LeftEpochSeat.{LeftEpochSeat}
-use Rattle.epoch_refs.specs.epoch_domain.Domains.{DomainState}
-use Rattle.epoch_refs.specs.epoch_domain.Seats.{SeatState}
-use Rattle.lane_work.specs.counted_handles.Handles.{Handle}
-use Rattle.lane_work.specs.declared.work.Work.{Work}
+use Rattle.cell_lanes.specs.epoch_refs.epoch_core.declared.shape.EpochShape.{EpochShape}
+use Rattle.cell_lanes.specs.epoch_refs.epoch_core.declared.view.LeftEpochSeat.{LeftEpochSeat}
+use Rattle.cell_lanes.specs.epoch_refs.epoch_domain.Domains.{DomainState}
+use Rattle.cell_lanes.specs.epoch_refs.epoch_domain.Seats.{SeatState}
+use Rattle.cell_lanes.specs.lane_work.counted_handles.Handles.{Handle}
+use Rattle.cell_lanes.specs.lane_work.declared.work.Work.{Work}
 use Rattle.cell_gathering.specs.declared.done.Done.{Done}
 use Rattle.cell_gathering.specs.Gathering.{Gathers, Tally}
 use Rattle.cell_gathering.specs.Ran.{EachRan, HasRun}

@@ -5,10 +5,10 @@ use Rattle.std.proofs.lemmas.List.Elements.{All-drop, All-map, All-take}
 use Rattle.cell_rest.specs.cdrc_text.Fold.{File}
 use Rattle.cell_rest.specs.cdrc_text.Pieces.{bytes_at}
 use Rattle.cell_rest.specs.cell_law.directory_law.Bytes.{AreBytes}
-use Rattle.lane_work.specs.FilePieces.{pieces_in}
-use Rattle.lane_work.specs.Sizes.{texts_in}
-use Rattle.lane_work.specs.declared.file.FileText.{FileText}
-use Rattle.lane_work.specs.declared.work.Work.{Work}
+use Rattle.cell_lanes.specs.lane_work.FilePieces.{pieces_in}
+use Rattle.cell_lanes.specs.lane_work.Sizes.{texts_in}
+use Rattle.cell_lanes.specs.lane_work.declared.file.FileText.{FileText}
+use Rattle.cell_lanes.specs.lane_work.declared.work.Work.{Work}
 
 pub no_bytes : All AreBytes []
 no_bytes k d h = absurd (omega (arith, h))

@@ -9,10 +9,10 @@ use Rattle.std.proofs.lemmas.List.{get_or_past, length-map, map-append}
 use Rattle.std.proofs.lemmas.List.Elements.{All-map, filter-append}
 use Rattle.std.proofs.lemmas.List.Sums.{sum_by-append, sum_by-cons}
 use Rattle.cell_rest.specs.cdrc_text.Fold.{File, holders_in, times}
-use Rattle.lane_work.specs.FilePieces.{pieces_in}
-use Rattle.lane_work.specs.Sizes.{texts_in}
-use Rattle.lane_work.specs.Work.{all_tickets, is_last, kept_files, words_of, words_of_all}
-use Rattle.lane_work.specs.declared.work.Work.{Work}
+use Rattle.cell_lanes.specs.lane_work.FilePieces.{pieces_in}
+use Rattle.cell_lanes.specs.lane_work.Sizes.{texts_in}
+use Rattle.cell_lanes.specs.lane_work.Work.{all_tickets, is_last, kept_files, words_of, words_of_all}
+use Rattle.cell_lanes.specs.lane_work.declared.work.Work.{Work}
 use Rattle.ticket_shares.specs.Tickets.{IsEachOnce, file_of}
 use Rattle.ticket_shares.specs.Tickets as shares
 use Rattle.ticket_shares.proofs.Rounds.{round_counts, round_sums}

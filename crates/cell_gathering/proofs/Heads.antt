@@ -9,15 +9,15 @@ use Rattle.std.proofs.lemmas.List.{append-nil}
 use Rattle.std.proofs.lemmas.List.Sums.{sum_by-cons}
 use Rattle.cell_lanes.specs.Counting.{GrowsBy}
 use Rattle.cell_lanes.specs.cell_making.Texts.{text_of}
-use Rattle.cell_law.proofs.Kit.{in_either}
+use Rattle.cell_rest.proofs.Below.cell_law_Kit.{in_either}
 use Rattle.cell_rest.specs.cdrc_text.Fold.{File, holders_in, times}
 use Rattle.cell_rest.specs.cell_law.Views.{texts_of}
 use Rattle.cell_rest.specs.cell_law.declared.view.View.{View}
 use Rattle.cell_rest.specs.cell_law.directory_law.declared.view.Rope.{Rope}
 use Rattle.cell_rest.specs.cell_law.directory_law.Views.{In}
-use Rattle.lane_work.specs.Sizes.{texts_in}
-use Rattle.lane_work.specs.Work.{files_in, words_of, words_of_all}
-use Rattle.lane_work.specs.declared.work.Work.{Work}
+use Rattle.cell_lanes.specs.lane_work.Sizes.{texts_in}
+use Rattle.cell_lanes.specs.lane_work.Work.{files_in, words_of, words_of_all}
+use Rattle.cell_lanes.specs.lane_work.declared.work.Work.{Work}
 use Rattle.cell_gathering.specs.Gathering.{IsTextIn}
 
 -- WORDS that stand in files

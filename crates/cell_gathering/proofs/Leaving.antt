@@ -7,7 +7,7 @@ use Rattle.std.proofs.lemmas.List.{append-nil, get_or_append_left, get_or_push, 
 use Rattle.cell_lanes.specs.Lanes.{lane_tickets}
 use Rattle.cell_lanes.specs.Ready.{IsReady}
 use Rattle.cell_lanes.specs.cell_calls.cell_protocol.declared.law.CellLaw.{CellLaw}
-use Rattle.cell_law.proofs.Kit.{in_either}
+use Rattle.cell_rest.proofs.Below.cell_law_Kit.{in_either}
 use Rattle.cell_rest.specs.Kept.{TellsFiles}
 use Rattle.cell_rest.specs.cdrc_text.Fold.{times as word_times}
 use Rattle.cell_rest.specs.cell_law.Views.{bound_in, joined}
@@ -17,24 +17,24 @@ use Rattle.cell_rest.specs.cell_law.directory_law.Views.{In}
 use Rattle.cell_rest.specs.cell_law.plain_state.declared.slot.SlotId.{SlotId}
 use Rattle.cell_rest.specs.cell_law.plain_state.Lists.{times}
 use Rattle.cell_rest.proofs.Joining.{joined_comes, joined_stays, tells_both}
-use Rattle.epoch_refs.specs.epoch_core.declared.act.EpochAct.TheVariants as act
-use Rattle.epoch_refs.specs.epoch_core.declared.outcome.EpochOutcome.TheVariants as outcome
-use Rattle.epoch_refs.specs.epoch_core.declared.view.EpochView.{EpochView}
-use Rattle.epoch_refs.specs.epoch_core.declared.view.LeftEpochSeat.{LeftEpochSeat}
-use Rattle.epoch_refs.specs.epoch_core.Runs.{taken_over}
-use Rattle.epoch_refs.specs.epoch_core.Steps.{noted}
-use Rattle.epoch_refs.specs.epoch_domain.Domains.{DomainState}
-use Rattle.epoch_refs.specs.epoch_domain.Leavings.{TookOver}
-use Rattle.epoch_refs.specs.epoch_domain.Seats.{SeatState}
-use Rattle.epoch_refs.specs.epoch_rule.declared.view.EpochSeatView.{EpochSeatView}
-use Rattle.epoch_refs.specs.Walks.{IsFree}
-use Rattle.lane_work.specs.Keeping.{slots_of}
-use Rattle.lane_work.specs.Sizes.{texts_in}
-use Rattle.lane_work.specs.Tallying.{Tallies}
-use Rattle.lane_work.specs.Work.{kept_files, words_of_all}
-use Rattle.lane_work.specs.counted_handles.Handles.{Handle}
-use Rattle.lane_work.specs.declared.work.Work.{Work}
-use Rattle.plain_audit.proofs.Below.plain_state_Kit.{times_append}
+use Rattle.cell_lanes.specs.epoch_refs.epoch_core.declared.act.EpochAct.TheVariants as act
+use Rattle.cell_lanes.specs.epoch_refs.epoch_core.declared.outcome.EpochOutcome.TheVariants as outcome
+use Rattle.cell_lanes.specs.epoch_refs.epoch_core.declared.view.EpochView.{EpochView}
+use Rattle.cell_lanes.specs.epoch_refs.epoch_core.declared.view.LeftEpochSeat.{LeftEpochSeat}
+use Rattle.cell_lanes.specs.epoch_refs.epoch_core.Runs.{taken_over}
+use Rattle.cell_lanes.specs.epoch_refs.epoch_core.Steps.{noted}
+use Rattle.cell_lanes.specs.epoch_refs.epoch_domain.Domains.{DomainState}
+use Rattle.cell_lanes.specs.epoch_refs.epoch_domain.Leavings.{TookOver}
+use Rattle.cell_lanes.specs.epoch_refs.epoch_domain.Seats.{SeatState}
+use Rattle.cell_lanes.specs.epoch_refs.epoch_rule.declared.view.EpochSeatView.{EpochSeatView}
+use Rattle.cell_lanes.specs.epoch_refs.Walks.{IsFree}
+use Rattle.cell_lanes.specs.lane_work.Keeping.{slots_of}
+use Rattle.cell_lanes.specs.lane_work.Sizes.{texts_in}
+use Rattle.cell_lanes.specs.lane_work.Tallying.{Tallies}
+use Rattle.cell_lanes.specs.lane_work.Work.{kept_files, words_of_all}
+use Rattle.cell_lanes.specs.lane_work.counted_handles.Handles.{Handle}
+use Rattle.cell_lanes.specs.lane_work.declared.work.Work.{Work}
+use Rattle.cell_rest.proofs.Below.plain_state_Kit.{times_append}
 use Rattle.tally_sums.specs.Sums.{counted_in}
 use Rattle.cell_gathering.specs.declared.done.Done.{Done}
 use Rattle.cell_gathering.specs.Gathering.{IsTextIn, Tally, heads_of, kept_by}

@@ -9,8 +9,8 @@ use Rattle.std.proofs.lemmas.List.FromFn.{map-range_with_len_more}
 use Rattle.std.proofs.lemmas.List.Sums.{sum_by-append, sum_by-cons}
 use Rattle.cell_lanes.specs.Lanes.{lane_tickets}
 use Rattle.cell_lanes.proofs.Shares.{lanes_share}
-use Rattle.lane_work.specs.Work.{all_tickets}
-use Rattle.lane_work.specs.declared.work.Work.{Work}
+use Rattle.cell_lanes.specs.lane_work.Work.{all_tickets}
+use Rattle.cell_lanes.specs.lane_work.declared.work.Work.{Work}
 use Rattle.ticket_shares.specs.Tickets.{IsEachOnce, ticket_times, together}
 use Rattle.ticket_shares.proofs.Counts.{none_if, one_if, times_append, times_cons}
 use Rattle.ticket_shares.proofs.Rounds.{none_past, one_below}

@@ -16,15 +16,15 @@ use Rattle.cell_rest.specs.cell_law.directory_law.declared.view.Rope.{Rope}
 use Rattle.cell_rest.specs.cell_law.directory_law.Views.{In}
 use Rattle.cell_rest.specs.cell_law.plain_state.declared.slot.SlotId.{SlotId}
 use Rattle.cell_rest.specs.cell_law.plain_state.Lists.{times}
-use Rattle.epoch_refs.specs.epoch_core.declared.view.LeftEpochSeat.{LeftEpochSeat}
-use Rattle.epoch_refs.specs.epoch_domain.Domains.{DomainState}
-use Rattle.epoch_refs.specs.epoch_domain.Seats.{SeatState}
-use Rattle.lane_work.specs.Keeping.{slots_of}
-use Rattle.lane_work.specs.Sizes.{texts_in}
-use Rattle.lane_work.specs.Tallying.{Tallies}
-use Rattle.lane_work.specs.Work.{kept_files, words_of_all}
-use Rattle.lane_work.specs.counted_handles.Handles.{Handle}
-use Rattle.lane_work.specs.declared.work.Work.{Work}
+use Rattle.cell_lanes.specs.epoch_refs.epoch_core.declared.view.LeftEpochSeat.{LeftEpochSeat}
+use Rattle.cell_lanes.specs.epoch_refs.epoch_domain.Domains.{DomainState}
+use Rattle.cell_lanes.specs.epoch_refs.epoch_domain.Seats.{SeatState}
+use Rattle.cell_lanes.specs.lane_work.Keeping.{slots_of}
+use Rattle.cell_lanes.specs.lane_work.Sizes.{texts_in}
+use Rattle.cell_lanes.specs.lane_work.Tallying.{Tallies}
+use Rattle.cell_lanes.specs.lane_work.Work.{kept_files, words_of_all}
+use Rattle.cell_lanes.specs.lane_work.counted_handles.Handles.{Handle}
+use Rattle.cell_lanes.specs.lane_work.declared.work.Work.{Work}
 use Rattle.tally_sums.specs.Sums.{counted_in}
 use Rattle.cell_gathering.specs.declared.done.Done.{Done}
 use Rattle.cell_gathering.specs.Gathering.{IsBare, IsTextIn, Tally, heads_of, kept_by}

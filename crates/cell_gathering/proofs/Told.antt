@@ -5,9 +5,9 @@ use Rattle.cell_rest.specs.cdrc_text.Fold.{holders_in}
 use Rattle.cell_rest.specs.cell_law.declared.view.View.{View}
 use Rattle.cell_rest.specs.cell_law.plain_state.declared.slot.SlotId.{SlotId}
 use Rattle.cell_rest.specs.cell_law.plain_state.Lists.{times}
-use Rattle.record_counts.proofs.Told.{held_is_told}
-use Rattle.lane_work.specs.Sizes.{texts_in}
-use Rattle.lane_work.specs.declared.work.Work.{Work}
+use Rattle.cell_rest.proofs.Below.record_counts_Told.{held_is_told}
+use Rattle.cell_lanes.specs.lane_work.Sizes.{texts_in}
+use Rattle.cell_lanes.specs.lane_work.declared.work.Work.{Work}
 use Rattle.cell_gathering.specs.Shares.{gathered_files, tickets_of}
 use Rattle.cell_gathering.proofs.Files.{same_holders}
 use Rattle.cell_gathering.proofs.Shares.{each_ticket}

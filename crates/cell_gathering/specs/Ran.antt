@@ -5,10 +5,10 @@ use Rattle.cell_lanes.specs.Ready.{IsReady}
 use Rattle.cell_rest.specs.cdrc_text.Tally.{count_of, total_of}
 use Rattle.cell_rest.specs.cell_law.declared.view.View.{View}
 use Rattle.cell_lanes.specs.cell_calls.cell_protocol.declared.law.CellLaw.{CellLaw}
-use Rattle.epoch_refs.specs.epoch_domain.Domains.{DomainState}
-use Rattle.epoch_refs.specs.epoch_domain.Seats.{SeatState}
-use Rattle.lane_work.specs.declared.lane.Lane.{Lane}
-use Rattle.lane_work.specs.declared.work.Work.{Work}
+use Rattle.cell_lanes.specs.epoch_refs.epoch_domain.Domains.{DomainState}
+use Rattle.cell_lanes.specs.epoch_refs.epoch_domain.Seats.{SeatState}
+use Rattle.cell_lanes.specs.lane_work.declared.lane.Lane.{Lane}
+use Rattle.cell_lanes.specs.lane_work.declared.work.Work.{Work}
 use Rattle.cell_gathering.specs.declared.done.Done.{Done}
 
 -- the lane of number n, which has counted nothing and keeps nothing

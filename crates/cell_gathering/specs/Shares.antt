@@ -3,8 +3,8 @@ use Rattle.std.specs.Prelude.{ℕ, List, map}
 use Rattle.std.specs.List.{range_with_len}
 use Rattle.cell_lanes.specs.Lanes.{lane_tickets}
 use Rattle.cell_rest.specs.cdrc_text.Fold.{File}
-use Rattle.lane_work.specs.Work.{kept_files}
-use Rattle.lane_work.specs.declared.work.Work.{Work}
+use Rattle.cell_lanes.specs.lane_work.Work.{kept_files}
+use Rattle.cell_lanes.specs.lane_work.declared.work.Work.{Work}
 use Rattle.ticket_shares.specs.Tickets.{together}
 
 -- the tickets of the first n of so many lanes, one lane's after the other's

@@ -6,8 +6,7 @@ ghost use Rattle.cell_gathering.specs.Gathering.{Gathers, IsBare, kept_by};
 ghost use Rattle.cell_gathering.specs.Ran.{EachRan};
 
 use crate::done::{Done, Gathered};
-use cell_lanes::{CellLaw, EpochDomain, EpochSeat, Lane, Strong, Work};
-use epoch_refs::e_leave;
+use cell_lanes::{CellLaw, EpochDomain, EpochSeat, Lane, Strong, Work, e_leave};
 use std::alloc::Global;
 use tally_sums::OutOfMemory;
 

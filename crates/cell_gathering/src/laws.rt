@@ -6,9 +6,9 @@ ghost use Rattle.cell_rest.specs.cell_law.declared.view.View.{View};
 ghost use Rattle.cell_rest.specs.cell_law.directory_law.Bytes.{AreBytes};
 ghost use Rattle.cell_rest.specs.cell_law.plain_state.declared.slot.SlotId.{SlotId};
 ghost use Rattle.cell_rest.specs.cell_law.plain_state.Lists.{times};
-ghost use Rattle.lane_work.specs.Sizes.{texts_in};
-ghost use Rattle.lane_work.specs.Work.{all_tickets};
-ghost use Rattle.lane_work.specs.declared.work.Work.{Work};
+ghost use Rattle.cell_lanes.specs.lane_work.Sizes.{texts_in};
+ghost use Rattle.cell_lanes.specs.lane_work.Work.{all_tickets};
+ghost use Rattle.cell_lanes.specs.lane_work.declared.work.Work.{Work};
 ghost use Rattle.ticket_shares.specs.Tickets.{IsEachOnce};
 ghost use Rattle.cell_gathering.specs.Shares.{gathered_files, tickets_of};
 

@@ -7,3 +7,4 @@ pub mod Handed
 pub mod Added
 pub mod Around
 pub mod Inside
+pub mod Below

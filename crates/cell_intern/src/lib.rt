@@ -19,3 +19,11 @@ mod refusal;
 
 pub use interning::intern;
 pub use refusal::InternError;
+
+// What its callers take with it.
+pub use cell_calls::{CellLaw, ClearCell, RecordKind};
+pub use cell_finding::{Walk, seek, sought_text};
+pub use epoch_refs::{
+    EpochDomain, EpochSeat, Place, SlotId, Strong, e_drop, e_image, e_leave, e_look, e_store,
+    enter, exit,
+};

@@ -3,16 +3,16 @@ use Rattle.std.proofs.Common.{◌≡◌, ℕ, ◌+◌, ◌≤◌, false, List, [
 use Rattle.std.specs.Prelude.{length, nat_lt}
 use Rattle.std.proofs.lemmas.List.{append-nil, length-append, map-append}
 use Rattle.std.proofs.lemmas.List.Sums.{sum_by-append}
-use Rattle.cell_calls.specs.Cells.{BindsAlone}
-use Rattle.cell_calls.specs.Keeping.{Keeps}
-use Rattle.cell_calls.proofs.Keeping.{keeps_self, keeps_wider}
-use Rattle.cell_calls.specs.cell_law.declared.view.View.{View}
-use Rattle.cell_calls.specs.cell_law.plain_state.declared.slot.SlotId.{SlotId}
-use Rattle.cell_calls.specs.cell_law.plain_state.Lists.{times}
-use Rattle.cell_calls.specs.cell_protocol.declared.law.CellLaw.{CellLaw}
-use Rattle.epoch_domain.proofs.Below.core_law_Kit.{times_none}
-use Rattle.epoch_refs.specs.epoch_domain.Domains.{DomainState}
-use Rattle.epoch_refs.specs.epoch_domain.Seats.{SeatState}
+use Rattle.cell_intern.specs.cell_calls.Cells.{BindsAlone}
+use Rattle.cell_intern.specs.cell_calls.Keeping.{Keeps}
+use Rattle.cell_intern.proofs.Below.cell_calls_Keeping.{keeps_self, keeps_wider}
+use Rattle.cell_intern.specs.cell_calls.cell_law.declared.view.View.{View}
+use Rattle.cell_intern.specs.cell_calls.cell_law.plain_state.declared.slot.SlotId.{SlotId}
+use Rattle.cell_intern.specs.cell_calls.cell_law.plain_state.Lists.{times}
+use Rattle.cell_intern.specs.cell_calls.cell_protocol.declared.law.CellLaw.{CellLaw}
+use Rattle.cell_intern.proofs.Below.core_law_Kit.{times_none}
+use Rattle.cell_intern.specs.epoch_refs.epoch_domain.Domains.{DomainState}
+use Rattle.cell_intern.specs.epoch_refs.epoch_domain.Seats.{SeatState}
 use Rattle.lane_work.specs.Keeping.{has, slots_of}
 use Rattle.lane_work.specs.Sizes.{slots_of_words}
 use Rattle.lane_work.specs.Tallying.{Tallies}
@@ -23,7 +23,7 @@ use Rattle.cell_lanes.specs.Counting.{Counts, CountsFile, CountsPiece, GrowsBy, 
 use Rattle.cell_lanes.specs.Keeping.{GivesUp}
 use Rattle.cell_lanes.specs.Ready.{CanCount}
 use Rattle.cell_rest.specs.Kept.{TellsWord}
-use Rattle.record_counts.specs.Told.{TellsRecords}
+use Rattle.cell_rest.specs.record_counts.Told.{TellsRecords}
 use Rattle.cell_lanes.proofs.Owning.{given_back, keeps_both}
 use Rattle.cell_lanes.proofs.Records.{marks_more, tells_more, tells_none}
 use Rattle.cell_lanes.proofs.Tallied.{tallies_none, tallies_then}

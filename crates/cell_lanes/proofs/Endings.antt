@@ -1,15 +1,15 @@
 -- What a lane has done that stopped.
 use Rattle.std.proofs.Common.{◌≡◌, ℕ, ◌+◌, ◌<◌, List, [], ◌∷◌, ◌++◌, sym, ap, subst, ◌∙◌, append_assoc, arith}
 use Rattle.std.proofs.lemmas.List.{length-append}
-use Rattle.cell_calls.specs.Cells.{BindsAlone}
-use Rattle.cell_calls.specs.Keeping.{Keeps}
-use Rattle.cell_calls.proofs.Keeping.{goes_then, keeps_wider}
-use Rattle.cell_calls.specs.cell_law.declared.view.View.{View}
-use Rattle.cell_calls.specs.cell_protocol.declared.law.CellLaw.{CellLaw}
-use Rattle.cell_making.specs.Making.{MissesWithin}
+use Rattle.cell_intern.specs.cell_calls.Cells.{BindsAlone}
+use Rattle.cell_intern.specs.cell_calls.Keeping.{Keeps}
+use Rattle.cell_intern.proofs.Below.cell_calls_Keeping.{goes_then, keeps_wider}
+use Rattle.cell_intern.specs.cell_calls.cell_law.declared.view.View.{View}
+use Rattle.cell_intern.specs.cell_calls.cell_protocol.declared.law.CellLaw.{CellLaw}
+use Rattle.cell_intern.specs.cell_making.Making.{MissesWithin}
 use Rattle.directory_law.proofs.Notes.{in_left}
-use Rattle.epoch_refs.specs.epoch_domain.Domains.{DomainState}
-use Rattle.epoch_refs.specs.epoch_domain.Seats.{SeatState}
+use Rattle.cell_intern.specs.epoch_refs.epoch_domain.Domains.{DomainState}
+use Rattle.cell_intern.specs.epoch_refs.epoch_domain.Seats.{SeatState}
 use Rattle.lane_work.specs.Keeping.{slots_of}
 use Rattle.lane_work.specs.Sizes.{slots_of_words}
 use Rattle.lane_work.specs.cdrc_text.Text.{slots_of_word}

@@ -2,23 +2,23 @@
 use Rattle.std.proofs.Common.{◌≡◌, ℕ, ◌+◌, ◌<◌, ◌≤◌, Bool, true, false, List, [], ◌∷◌, ◌++◌, refl, sym, ap, subst, ◌∙◌, arith}
 use Rattle.std.specs.Prelude.{cond, drop, length, Option, Some, None}
 use Rattle.std.proofs.lemmas.List.{drop-append-le, map-append}
-use Rattle.cell_calls.specs.Keeping.{Keeps}
-use Rattle.cell_calls.proofs.Keeping.{keeps_self, keeps_then, keeps_wider}
-use Rattle.cell_calls.specs.cell_law.declared.view.View.{View}
-use Rattle.cell_calls.specs.cell_law.plain_state.declared.slot.SlotId.{SlotId}
-use Rattle.cell_calls.specs.cell_law.plain_state.Lists.{times}
-use Rattle.cell_calls.specs.cell_protocol.declared.law.CellLaw.{CellLaw}
-use Rattle.cell_making.proofs.Kept.{drop_back, drop_keeps}
-use Rattle.cell_making.proofs.Owned.{holds_on}
-use Rattle.epoch_domain.proofs.Below.core_law_Kit.{one_same, times_append, times_cons, times_none, times_push, times_without}
-use Rattle.epoch_refs.specs.Walks.{IsAtRest}
-use Rattle.epoch_refs.specs.epoch_core.core_events.Views.{without}
-use Rattle.epoch_refs.specs.epoch_core.declared.act.EpochAct.TheVariants as act
-use Rattle.epoch_refs.specs.epoch_core.declared.outcome.EpochOutcome.{EpochOutcome}
-use Rattle.epoch_refs.specs.epoch_core.declared.view.EpochView.{EpochView}
-use Rattle.epoch_refs.specs.epoch_domain.Calls.{IsSameView, Steps, same_view}
-use Rattle.epoch_refs.specs.epoch_domain.Domains.{DomainState}
-use Rattle.epoch_refs.specs.epoch_domain.Seats.{SeatState}
+use Rattle.cell_intern.specs.cell_calls.Keeping.{Keeps}
+use Rattle.cell_intern.proofs.Below.cell_calls_Keeping.{keeps_self, keeps_then, keeps_wider}
+use Rattle.cell_intern.specs.cell_calls.cell_law.declared.view.View.{View}
+use Rattle.cell_intern.specs.cell_calls.cell_law.plain_state.declared.slot.SlotId.{SlotId}
+use Rattle.cell_intern.specs.cell_calls.cell_law.plain_state.Lists.{times}
+use Rattle.cell_intern.specs.cell_calls.cell_protocol.declared.law.CellLaw.{CellLaw}
+use Rattle.cell_intern.proofs.Below.cell_making_Kept.{drop_back, drop_keeps}
+use Rattle.cell_intern.proofs.Below.cell_making_Owned.{holds_on}
+use Rattle.cell_intern.proofs.Below.core_law_Kit.{one_same, times_append, times_cons, times_none, times_push, times_without}
+use Rattle.cell_intern.specs.epoch_refs.Walks.{IsAtRest}
+use Rattle.cell_intern.specs.epoch_refs.epoch_core.core_events.Views.{without}
+use Rattle.cell_intern.specs.epoch_refs.epoch_core.declared.act.EpochAct.TheVariants as act
+use Rattle.cell_intern.specs.epoch_refs.epoch_core.declared.outcome.EpochOutcome.{EpochOutcome}
+use Rattle.cell_intern.specs.epoch_refs.epoch_core.declared.view.EpochView.{EpochView}
+use Rattle.cell_intern.specs.epoch_refs.epoch_domain.Calls.{IsSameView, Steps, same_view}
+use Rattle.cell_intern.specs.epoch_refs.epoch_domain.Domains.{DomainState}
+use Rattle.cell_intern.specs.epoch_refs.epoch_domain.Seats.{SeatState}
 use Rattle.lane_work.specs.Keeping.{Admits, has, slots_of}
 use Rattle.lane_work.specs.counted_handles.Handles.{Handle}
 use Rattle.lane_work.specs.declared.keeper.Keeper.{Keeper}

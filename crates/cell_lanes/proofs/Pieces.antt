@@ -2,21 +2,21 @@
 use Rattle.std.proofs.Common.{◌≡◌, ◌⊎◌, ⊎_elim, inl, inr, ℕ, ◌+◌, ◌≤◌, List, [], ◌∷◌, ◌++◌, refl, sym, ap, subst, ◌∙◌, arith}
 use Rattle.std.specs.Prelude.{Err, length, Ok, Result}
 use Rattle.std.proofs.lemmas.List.Sums.{sum_by-cons}
-use Rattle.cell_calls.specs.Cells.{BindsAlone}
-use Rattle.cell_calls.specs.Keeping.{Keeps}
-use Rattle.cell_calls.proofs.Keeping.{keeps_wider}
-use Rattle.cell_calls.specs.cell_law.Views.{TellsNone}
-use Rattle.cell_calls.specs.cell_law.declared.view.View.{View}
-use Rattle.cell_calls.specs.cell_law.directory_law.declared.view.Rope.{Rope}
-use Rattle.cell_calls.specs.cell_law.plain_state.declared.slot.SlotId.{SlotId}
-use Rattle.cell_calls.specs.cell_protocol.declared.law.CellLaw.{CellLaw}
+use Rattle.cell_intern.specs.cell_calls.Cells.{BindsAlone}
+use Rattle.cell_intern.specs.cell_calls.Keeping.{Keeps}
+use Rattle.cell_intern.proofs.Below.cell_calls_Keeping.{keeps_wider}
+use Rattle.cell_intern.specs.cell_calls.cell_law.Views.{TellsNone}
+use Rattle.cell_intern.specs.cell_calls.cell_law.declared.view.View.{View}
+use Rattle.cell_intern.specs.cell_calls.cell_law.directory_law.declared.view.Rope.{Rope}
+use Rattle.cell_intern.specs.cell_calls.cell_law.plain_state.declared.slot.SlotId.{SlotId}
+use Rattle.cell_intern.specs.cell_calls.cell_protocol.declared.law.CellLaw.{CellLaw}
 use Rattle.cell_intern.specs.Interning.{BindsMore, Grows, Has, IsForNone, MakesForBinds}
 use Rattle.cell_intern.specs.Refusals.{IsWhy}
 use Rattle.cell_intern.specs.declared.refusal.InternError.{InternError}
 use Rattle.cell_intern.specs.declared.refusal.InternError.TheVariants as refused
-use Rattle.epoch_refs.specs.epoch_domain.Domains.{DomainState}
-use Rattle.epoch_refs.specs.epoch_domain.Seats.{SeatState}
-use Rattle.record_texts.specs.Texts.{text_of}
+use Rattle.cell_intern.specs.epoch_refs.epoch_domain.Domains.{DomainState}
+use Rattle.cell_intern.specs.epoch_refs.epoch_domain.Seats.{SeatState}
+use Rattle.cell_intern.specs.record_texts.Texts.{text_of}
 use Rattle.lane_work.specs.Keeping.{IsSameKeeper, slots_of}
 use Rattle.lane_work.specs.Sizes.{slots_of_words}
 use Rattle.lane_work.specs.cdrc_text.Tally.{CountsOneMore}

@@ -3,17 +3,17 @@ use Rattle.std.proofs.Common.{◌≡◌, ◌⊎◌, inl, inr, ⊎_elim, ℕ, zer
 use Rattle.std.specs.Prelude.{◌==◌, cond, nat_lt}
 use Rattle.std.proofs.lemmas.Bool.{cases_eq, lt-ltb, ltb-false, ltb-true}
 use Rattle.std.proofs.lemmas.Bool.Decides.{nat_tests}
-use Rattle.cell_calls.specs.cell_law.declared.view.View.{View}
-use Rattle.cell_calls.specs.cell_law.plain_state.declared.slot.SlotId.{SlotId}
-use Rattle.cell_calls.specs.cell_law.plain_state.Lists.{times}
-use Rattle.epoch_domain.proofs.Below.core_law_Kit.{one_other, one_same, times_append, times_cons, times_none, times_push}
-use Rattle.epoch_refs.specs.epoch_core.core_events.Counts.{one}
+use Rattle.cell_intern.specs.cell_calls.cell_law.declared.view.View.{View}
+use Rattle.cell_intern.specs.cell_calls.cell_law.plain_state.declared.slot.SlotId.{SlotId}
+use Rattle.cell_intern.specs.cell_calls.cell_law.plain_state.Lists.{times}
+use Rattle.cell_intern.proofs.Below.core_law_Kit.{one_other, one_same, times_append, times_cons, times_none, times_push}
+use Rattle.cell_intern.specs.epoch_refs.epoch_core.core_events.Counts.{one}
 use Rattle.lane_work.specs.Keeping.{slots_of}
 use Rattle.lane_work.specs.counted_handles.Handles.{Handle}
 use Rattle.cell_lanes.specs.Counting.{GrowsBy}
 use Rattle.cell_rest.specs.Kept.{TellsWord}
-use Rattle.record_counts.specs.Told.{TellsEach, TellsRecords}
-use Rattle.record_counts.proofs.Joined.{each_more}
+use Rattle.cell_rest.specs.record_counts.Told.{TellsEach, TellsRecords}
+use Rattle.cell_rest.proofs.Below.record_counts_Joined.{each_more}
 use Rattle.cell_lanes.proofs.Viewed.{tells_on}
 
 each_push : (Told : List ℕ → SlotId → Type 0) (ws : List (List ℕ)) (ss : List SlotId) (w : List ℕ)

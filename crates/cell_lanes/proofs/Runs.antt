@@ -2,10 +2,10 @@
 use Rattle.std.proofs.Common.{◌≡◌, ℕ, ◌+◌, ◌<◌, Bool, true, false, List, [], ◌∷◌, ◌++◌, sym, ap, subst, arith}
 use Rattle.std.specs.Prelude.{length}
 use Rattle.std.proofs.lemmas.List.{length-append}
-use Rattle.cell_calls.specs.cell_law.declared.view.View.{View}
-use Rattle.cell_calls.specs.cell_protocol.declared.law.CellLaw.{CellLaw}
-use Rattle.epoch_refs.specs.epoch_domain.Domains.{DomainState}
-use Rattle.epoch_refs.specs.epoch_domain.Seats.{SeatState}
+use Rattle.cell_intern.specs.cell_calls.cell_law.declared.view.View.{View}
+use Rattle.cell_intern.specs.cell_calls.cell_protocol.declared.law.CellLaw.{CellLaw}
+use Rattle.cell_intern.specs.epoch_refs.epoch_domain.Domains.{DomainState}
+use Rattle.cell_intern.specs.epoch_refs.epoch_domain.Seats.{SeatState}
 use Rattle.lane_work.specs.Work.{all_tickets, words_of, words_of_all}
 use Rattle.lane_work.specs.declared.lane.Lane.{Lane}
 use Rattle.lane_work.specs.declared.work.Work.{Work}

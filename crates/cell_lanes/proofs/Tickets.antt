@@ -6,10 +6,10 @@ use Rattle.std.proofs.lemmas.List.{append-nil, drop_at, map-append, take_at}
 use Rattle.std.proofs.lemmas.List.Concat.{flat_map-append}
 use Rattle.std.proofs.lemmas.List.Elements.{filter-append}
 use Rattle.std.proofs.lemmas.List.FromFn.{map-range_with_len_more}
-use Rattle.cell_calls.specs.cell_law.declared.view.View.{View}
-use Rattle.cell_calls.specs.cell_protocol.declared.law.CellLaw.{CellLaw}
-use Rattle.epoch_refs.specs.epoch_domain.Domains.{DomainState}
-use Rattle.epoch_refs.specs.epoch_domain.Seats.{SeatState}
+use Rattle.cell_intern.specs.cell_calls.cell_law.declared.view.View.{View}
+use Rattle.cell_intern.specs.cell_calls.cell_protocol.declared.law.CellLaw.{CellLaw}
+use Rattle.cell_intern.specs.epoch_refs.epoch_domain.Domains.{DomainState}
+use Rattle.cell_intern.specs.epoch_refs.epoch_domain.Seats.{SeatState}
 use Rattle.lane_work.specs.Keeping.{slots_of}
 use Rattle.lane_work.specs.Work.{is_last, kept_files, words_of, words_of_all}
 use Rattle.lane_work.specs.counted_handles.Handles.{Handle}

@@ -2,20 +2,20 @@
 use Rattle.std.proofs.Common.{◌≡◌, ⊎_elim, ℕ, ◌+◌, ◌≤◌, List, [], ◌∷◌, ◌++◌, refl, sym, ap, subst, ◌∙◌, append_assoc, arith}
 use Rattle.std.specs.Prelude.{length, map}
 use Rattle.std.proofs.lemmas.List.{length-append, length-map, map-append}
-use Rattle.cell_calls.specs.Cells.{BindsAlone}
-use Rattle.cell_calls.specs.cell_law.Views.{bound_in, texts_of}
-use Rattle.cell_calls.specs.cell_law.declared.view.View.{View}
-use Rattle.cell_calls.specs.cell_law.directory_law.Views.{In, rope}
-use Rattle.cell_calls.specs.cell_law.directory_law.declared.view.Rope.{Rope}
-use Rattle.cell_calls.specs.cell_law.plain_state.declared.slot.SlotId.{SlotId}
-use Rattle.cell_law.proofs.Kit.{in_either}
-use Rattle.cell_calls.specs.cell_protocol.declared.law.CellLaw.{CellLaw}
+use Rattle.cell_intern.specs.cell_calls.Cells.{BindsAlone}
+use Rattle.cell_intern.specs.cell_calls.cell_law.Views.{bound_in, texts_of}
+use Rattle.cell_intern.specs.cell_calls.cell_law.declared.view.View.{View}
+use Rattle.cell_intern.specs.cell_calls.cell_law.directory_law.Views.{In, rope}
+use Rattle.cell_intern.specs.cell_calls.cell_law.directory_law.declared.view.Rope.{Rope}
+use Rattle.cell_intern.specs.cell_calls.cell_law.plain_state.declared.slot.SlotId.{SlotId}
+use Rattle.cell_rest.proofs.Below.cell_law_Kit.{in_either}
+use Rattle.cell_intern.specs.cell_calls.cell_protocol.declared.law.CellLaw.{CellLaw}
 use Rattle.directory_law.proofs.Notes.{in_left, in_right}
-use Rattle.epoch_refs.specs.epoch_domain.Domains.{DomainState}
-use Rattle.epoch_refs.specs.epoch_domain.Seats.{SeatState}
-use Rattle.epoch_refs.specs.epoch_rule.Views.{object_in}
-use Rattle.record_texts.specs.Texts.{text_of}
-use Rattle.record_texts.proofs.Packed.{is_text_of}
+use Rattle.cell_intern.specs.epoch_refs.epoch_domain.Domains.{DomainState}
+use Rattle.cell_intern.specs.epoch_refs.epoch_domain.Seats.{SeatState}
+use Rattle.cell_intern.specs.epoch_refs.epoch_rule.Views.{object_in}
+use Rattle.cell_intern.specs.record_texts.Texts.{text_of}
+use Rattle.cell_intern.proofs.Below.record_texts_Packed.{is_text_of}
 use Rattle.cell_intern.specs.Interning.{BindsMore, Grows, Has}
 use Rattle.cell_lanes.specs.Counting.{GrowsBy}
 use Rattle.cell_lanes.proofs.Tallied.{times_append}

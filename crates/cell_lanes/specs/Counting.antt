@@ -19,7 +19,7 @@ use Rattle.lane_work.specs.cdrc_text.Fold.{times}
 use Rattle.lane_work.specs.counted_handles.Handles.{Handle}
 use Rattle.lane_work.specs.declared.lane.Lane.{Lane}
 use Rattle.cell_rest.specs.Kept.{TellsWord}
-use Rattle.record_counts.specs.Told.{TellsRecords}
+use Rattle.cell_rest.specs.record_counts.Told.{TellsRecords}
 
 -- THE VIEW
 -- The view has seen and found more. It lists more heads as bound, with the texts of some of these words, at most one

@@ -5,7 +5,7 @@ pub use Rattle.cell_intern.specs.cell_making as cell_making
 pub use Rattle.cell_rest.specs as cell_rest
 pub use Rattle.cell_intern.specs.epoch_refs as epoch_refs
 pub use Rattle.lane_work.specs as lane_work
-pub use Rattle.record_counts.specs as record_counts
+pub use Rattle.cell_rest.specs.record_counts as record_counts
 -- Its own.
 pub mod Counting
 pub mod Keeping

@@ -7,9 +7,7 @@ ghost use Rattle.cell_lanes.specs.Stopping.{Stops, StopsAt};
 
 use crate::keeping::{give_up, keep};
 use crate::refusal::LaneStop;
-use cell_calls::CellLaw;
-use cell_intern::intern;
-use epoch_refs::{EpochDomain, EpochSeat};
+use cell_intern::{CellLaw, EpochDomain, EpochSeat, intern};
 use lane_gate::Gate;
 use lane_work::{FileText, Lane};
 use std::alloc::Global;

@@ -8,8 +8,7 @@ ghost use Rattle.lane_work.specs.Keeping.{IsSameKeeper, slots_of};
 ghost use Rattle.cell_lanes.specs.Keeping.{GivesUp, KeepsOne};
 ghost use Rattle.cell_lanes.specs.Ready.{IsReady};
 
-use cell_calls::CellLaw;
-use epoch_refs::{EpochDomain, EpochSeat, Strong, e_drop};
+use cell_intern::{CellLaw, EpochDomain, EpochSeat, Strong, e_drop};
 use lane_work::{Keeper, OutOfMemory};
 
 /// Keeps the seat's reference to a record, or gives it up where one to that slot is kept for the present file. With no

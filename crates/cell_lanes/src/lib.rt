@@ -22,10 +22,8 @@ mod lanes;
 mod laws;
 mod refusal;
 
-pub use cell_calls::CellLaw;
-pub use cell_intern::InternError;
+pub use cell_intern::{CellLaw, EpochDomain, EpochSeat, InternError, Strong, e_leave};
 pub use counting::{count_file, count_piece};
-pub use epoch_refs::{EpochDomain, EpochSeat, Strong};
 pub use lane_gate::Gate;
 pub use lane_work::{FileText, Keeper, Lane, Work};
 pub use lanes::run_lane;

@@ -20,3 +20,6 @@ mod making;
 pub use cells::{ClearCell, FindText, LookCell, ReadPart};
 pub use law::CellLaw;
 pub use making::{BindCell, LinkPart, MakePiece};
+
+// What its callers take with it.
+pub use directory_protocol::RecordKind;

@@ -1,18 +1,18 @@
 -- In which lives a seat that is alone knows what it owns.
 use Rattle.std.proofs.Common.{◌≡◌, ◌<◌, false, ap, sym, ◌∙◌, subst, arith}
-use Rattle.cell_calls.specs.Cells.{area_of}
-use Rattle.cell_calls.specs.cell_law.declared.view.View.{View}
-use Rattle.cell_calls.specs.cell_law.directory_law.Views.{In, rope}
-use Rattle.cell_calls.specs.cell_law.directory_law.declared.view.Rope.{Rope}
-use Rattle.cell_calls.specs.cell_law.plain_state.Lists.{times}
-use Rattle.cell_calls.specs.cell_law.plain_state.declared.slot.SlotId.{SlotId}
-use Rattle.cell_calls.specs.cell_protocol.declared.law.CellLaw.{CellLaw}
+use Rattle.cell_intern.specs.cell_calls.Cells.{area_of}
+use Rattle.cell_intern.specs.cell_calls.cell_law.declared.view.View.{View}
+use Rattle.cell_intern.specs.cell_calls.cell_law.directory_law.Views.{In, rope}
+use Rattle.cell_intern.specs.cell_calls.cell_law.directory_law.declared.view.Rope.{Rope}
+use Rattle.cell_intern.specs.cell_calls.cell_law.plain_state.Lists.{times}
+use Rattle.cell_intern.specs.cell_calls.cell_law.plain_state.declared.slot.SlotId.{SlotId}
+use Rattle.cell_intern.specs.cell_calls.cell_protocol.declared.law.CellLaw.{CellLaw}
 use Rattle.cell_rest.specs.Kept.{told_by}
 use Rattle.cell_rest.proofs.Told.{told_now}
 use Rattle.epoch_alone.proofs.Objects.{own_has}
-use Rattle.epoch_refs.specs.epoch_domain.Domains.{DomainState}
-use Rattle.epoch_refs.specs.epoch_domain.Seats.{SeatState}
-use Rattle.epoch_refs.specs.plain_protocol.Owns.{Object}
+use Rattle.cell_intern.specs.epoch_refs.epoch_domain.Domains.{DomainState}
+use Rattle.cell_intern.specs.epoch_refs.epoch_domain.Seats.{SeatState}
+use Rattle.cell_intern.specs.epoch_refs.plain_protocol.Owns.{Object}
 use Rattle.cell_records.specs.Audits.{KnowsCells}
 use Rattle.cell_records.specs.Lives.{KnowsLives}
 use Rattle.cell_records.proofs.Cleared.{KnowsOwned}

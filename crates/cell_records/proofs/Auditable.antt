@@ -3,45 +3,45 @@ use Rattle.std.proofs.Common.{◌≡◌, ⊎_elim, ℕ, zero, suc, ◌^◌, ◌<
 use Rattle.std.specs.Prelude.{IfOk, Ok, Result}
 use Rattle.std.proofs.lemmas.List.{length-map}
 use Rattle.std.proofs.lemmas.List.Sums.{sum_by-cons}
-use Rattle.cell_calls.specs.cell_law.declared.view.View.{View}
-use Rattle.cell_calls.specs.cell_protocol.declared.law.CellLaw.{CellLaw}
-use Rattle.core_law.proofs.Each.{length_each}
-use Rattle.directory_law.specs.Bytes.{IsPiece, piece_weight}
-use Rattle.core_law.proofs.Kit.{entry_none, times_none}
+use Rattle.cell_intern.specs.cell_calls.cell_law.declared.view.View.{View}
+use Rattle.cell_intern.specs.cell_calls.cell_protocol.declared.law.CellLaw.{CellLaw}
+use Rattle.epoch_alone.proofs.Below.core_law_Each.{length_each}
+use Rattle.cell_rest.specs.directory_law.Bytes.{IsPiece, piece_weight}
+use Rattle.epoch_alone.proofs.Below.core_law_Kit.{entry_none, times_none}
 use Rattle.domain_audit.specs.Lone.{CanBeAudited}
 use Rattle.domain_audit.proofs.OneSeat.{IsLoneState, audit_same, can_be_audited, is_heap, is_image, is_settled, with_one_seat}
 use Rattle.epoch_alone.specs.Lone as alone
 use Rattle.epoch_alone.specs.Lone.{StaysAll}
 use Rattle.epoch_alone.proofs.Settled.{imaged, settled}
 use Rattle.epoch_alone.specs.Settled.{IsSettled}
-use Rattle.epoch_core.specs.Shows.{show_seat, show_slot, shows}
-use Rattle.epoch_core.proofs.Bridge.{seats_sum}
-use Rattle.epoch_core.proofs.Lawful.{shows_sound}
-use Rattle.epoch_core.proofs.Put.{adds_fit}
-use Rattle.epoch_core.specs.Runs.{Core}
-use Rattle.epoch_refs.specs.Walks.{IsFree}
-use Rattle.epoch_refs.specs.epoch_core.declared.view.EpochView.{EpochView}
-use Rattle.epoch_refs.specs.epoch_domain.Domains.{DomainState}
-use Rattle.epoch_refs.specs.epoch_domain.Seats.{SeatState}
-use Rattle.epoch_refs.specs.epoch_domain.Wholes.{IsWholeImage}
-use Rattle.epoch_refs.specs.epoch_rule.Views.{core_in}
-use Rattle.epoch_refs.specs.epoch_rule.declared.view.EpochSeatView.{EpochSeatView}
-use Rattle.plain_audit.specs.Audits.{IsAudit}
-use Rattle.plain_audit.specs.heap_audit.Heaps.{live_bytes, live_slots, slot}
-use Rattle.plain_audit.specs.heap_audit.Reached.{HowMany, IsUnreached}
-use Rattle.plain_audit.specs.heap_audit.Walks.{IsFound, IsWalk}
-use Rattle.plain_audit.specs.heap_audit.declared.finding.Audit.{Audit}
-use Rattle.plain_audit.specs.plain_state.Images.{IsImage}
-use Rattle.plain_audit.specs.plain_state.Limits.{most_slots}
-use Rattle.plain_audit.specs.plain_state.Lists.{entry_times, times}
-use Rattle.plain_audit.specs.plain_state.References.{over_seats}
-use Rattle.plain_audit.specs.plain_state.Sound.{Sound, all_adds}
-use Rattle.plain_audit.specs.plain_state.State.{Plain, PlainSeat, new_seat, stage_at}
-use Rattle.plain_audit.specs.plain_state.declared.image.Heap.{Heap}
-use Rattle.plain_audit.specs.plain_state.declared.slot.Kind.TheVariants.{Disposal}
-use Rattle.plain_audit.specs.plain_state.declared.slot.SlotId.{SlotId}
-use Rattle.plain_audit.specs.plain_state.declared.slot.Stage.TheVariants.{Free, Live}
-use Rattle.plain_audit.proofs.Auditing.{audit_made}
+use Rattle.epoch_alone.specs.epoch_core.Shows.{show_seat, show_slot, shows}
+use Rattle.epoch_alone.proofs.Below.epoch_core_Bridge.{seats_sum}
+use Rattle.epoch_alone.proofs.Below.epoch_core_Lawful.{shows_sound}
+use Rattle.epoch_alone.proofs.Below.epoch_core_Put.{adds_fit}
+use Rattle.epoch_alone.specs.epoch_core.Runs.{Core}
+use Rattle.cell_intern.specs.epoch_refs.Walks.{IsFree}
+use Rattle.cell_intern.specs.epoch_refs.epoch_core.declared.view.EpochView.{EpochView}
+use Rattle.cell_intern.specs.epoch_refs.epoch_domain.Domains.{DomainState}
+use Rattle.cell_intern.specs.epoch_refs.epoch_domain.Seats.{SeatState}
+use Rattle.cell_intern.specs.epoch_refs.epoch_domain.Wholes.{IsWholeImage}
+use Rattle.cell_intern.specs.epoch_refs.epoch_rule.Views.{core_in}
+use Rattle.cell_intern.specs.epoch_refs.epoch_rule.declared.view.EpochSeatView.{EpochSeatView}
+use Rattle.cell_rest.specs.plain_audit.Audits.{IsAudit}
+use Rattle.cell_rest.specs.plain_audit.heap_audit.Heaps.{live_bytes, live_slots, slot}
+use Rattle.cell_rest.specs.plain_audit.heap_audit.Reached.{HowMany, IsUnreached}
+use Rattle.cell_rest.specs.plain_audit.heap_audit.Walks.{IsFound, IsWalk}
+use Rattle.cell_rest.specs.plain_audit.heap_audit.declared.finding.Audit.{Audit}
+use Rattle.cell_rest.specs.plain_audit.plain_state.Images.{IsImage}
+use Rattle.cell_rest.specs.plain_audit.plain_state.Limits.{most_slots}
+use Rattle.cell_rest.specs.plain_audit.plain_state.Lists.{entry_times, times}
+use Rattle.cell_rest.specs.plain_audit.plain_state.References.{over_seats}
+use Rattle.cell_rest.specs.plain_audit.plain_state.Sound.{Sound, all_adds}
+use Rattle.cell_rest.specs.plain_audit.plain_state.State.{Plain, PlainSeat, new_seat, stage_at}
+use Rattle.cell_rest.specs.plain_audit.plain_state.declared.image.Heap.{Heap}
+use Rattle.cell_rest.specs.plain_audit.plain_state.declared.slot.Kind.TheVariants.{Disposal}
+use Rattle.cell_rest.specs.plain_audit.plain_state.declared.slot.SlotId.{SlotId}
+use Rattle.cell_rest.specs.plain_audit.plain_state.declared.slot.Stage.TheVariants.{Free, Live}
+use Rattle.cell_rest.proofs.Below.plain_audit_Auditing.{audit_made}
 use Rattle.cell_records.specs.Audits.{IsAudited, KnowsCells}
 use Rattle.cell_records.specs.Clearing.{KnowsNull}
 use Rattle.cell_records.proofs.Nulls.{null_same}

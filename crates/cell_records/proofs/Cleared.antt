@@ -1,24 +1,24 @@
 -- What a store of null into a cell leaves of the client's view, and what such stores leave together.
 use Rattle.std.proofs.Common.{◌≡◌, ℕ, ◌+◌, ◌<◌, List, true, subst, sym, ap, ◌∙◌, arith}
 use Rattle.std.specs.Prelude.{IsSome, None, Option, Some}
-use Rattle.cell_calls.specs.cell_law.Lessons.{ClearReady, clear_next}
-use Rattle.cell_calls.specs.cell_law.declared.view.View.{View}
-use Rattle.cell_calls.specs.cell_law.plain_state.Lists.{times}
-use Rattle.cell_calls.specs.cell_law.plain_state.State.{Plain}
-use Rattle.cell_calls.specs.cell_law.directory_law.Cells.{Area}
-use Rattle.cell_calls.specs.cell_law.plain_state.declared.act.EventPlace.TheVariants.{Cell}
-use Rattle.cell_calls.specs.cell_law.plain_state.declared.act.PlainAct.TheVariants as plain
-use Rattle.cell_calls.specs.cell_law.plain_state.declared.slot.SlotId.{SlotId}
-use Rattle.cell_calls.specs.cell_protocol.declared.law.CellLaw.{CellLaw}
-use Rattle.epoch_refs.specs.Exchanges.{Dates, IsStored}
-use Rattle.epoch_refs.specs.Walks.{IsAtRest}
-use Rattle.epoch_refs.specs.epoch_core.declared.act.EpochAct.TheVariants as act
-use Rattle.epoch_refs.specs.epoch_core.declared.view.EpochView.{EpochView}
-use Rattle.epoch_refs.specs.epoch_domain.Domains.{DomainState}
-use Rattle.epoch_refs.specs.epoch_domain.Seats.{SeatState}
-use Rattle.epoch_refs.specs.epoch_rule.declared.view.EpochSeatView.{EpochSeatView}
-use Rattle.epoch_refs.specs.epoch_rule.Views.{object_in}
-use Rattle.epoch_refs.specs.plain_protocol.Owns.{OwnPart}
+use Rattle.cell_intern.specs.cell_calls.cell_law.Lessons.{ClearReady, clear_next}
+use Rattle.cell_intern.specs.cell_calls.cell_law.declared.view.View.{View}
+use Rattle.cell_intern.specs.cell_calls.cell_law.plain_state.Lists.{times}
+use Rattle.cell_intern.specs.cell_calls.cell_law.plain_state.State.{Plain}
+use Rattle.cell_intern.specs.cell_calls.cell_law.directory_law.Cells.{Area}
+use Rattle.cell_intern.specs.cell_calls.cell_law.plain_state.declared.act.EventPlace.TheVariants.{Cell}
+use Rattle.cell_intern.specs.cell_calls.cell_law.plain_state.declared.act.PlainAct.TheVariants as plain
+use Rattle.cell_intern.specs.cell_calls.cell_law.plain_state.declared.slot.SlotId.{SlotId}
+use Rattle.cell_intern.specs.cell_calls.cell_protocol.declared.law.CellLaw.{CellLaw}
+use Rattle.cell_intern.specs.epoch_refs.Exchanges.{Dates, IsStored}
+use Rattle.cell_intern.specs.epoch_refs.Walks.{IsAtRest}
+use Rattle.cell_intern.specs.epoch_refs.epoch_core.declared.act.EpochAct.TheVariants as act
+use Rattle.cell_intern.specs.epoch_refs.epoch_core.declared.view.EpochView.{EpochView}
+use Rattle.cell_intern.specs.epoch_refs.epoch_domain.Domains.{DomainState}
+use Rattle.cell_intern.specs.epoch_refs.epoch_domain.Seats.{SeatState}
+use Rattle.cell_intern.specs.epoch_refs.epoch_rule.declared.view.EpochSeatView.{EpochSeatView}
+use Rattle.cell_intern.specs.epoch_refs.epoch_rule.Views.{object_in}
+use Rattle.cell_intern.specs.epoch_refs.plain_protocol.Owns.{OwnPart}
 use Rattle.cell_records.specs.Root.{IsRoot}
 use Rattle.cell_records.proofs.Staying.{root_by}
 

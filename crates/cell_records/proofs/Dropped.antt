@@ -2,28 +2,28 @@
 use Rattle.std.proofs.Common.{◌≡◌, ◌≢◌, ℕ, ◌+◌, ◌<◌, ◌≤◌, List, [], ◌∷◌, ◌++◌, set, refl, ap, sym, ◌∙◌, arith}
 use Rattle.std.specs.Prelude.{IsSome, slice_index}
 use Rattle.std.proofs.lemmas.List.{get_or-set_other, map-append}
-use Rattle.cell_calls.specs.cell_law.declared.view.View.{View}
-use Rattle.cell_calls.specs.cell_law.plain_state.Lists.{times}
-use Rattle.cell_calls.specs.cell_law.plain_state.declared.slot.SlotId.{SlotId}
-use Rattle.cell_calls.specs.cell_protocol.declared.law.CellLaw.{CellLaw}
-use Rattle.cell_making.proofs.Kept.{drop_keeps}
-use Rattle.core_law.proofs.Kit.{one_same, times_append, times_cons, times_none, times_without}
-use Rattle.core_law.proofs.Lists.{each_same}
+use Rattle.cell_intern.specs.cell_calls.cell_law.declared.view.View.{View}
+use Rattle.cell_intern.specs.cell_calls.cell_law.plain_state.Lists.{times}
+use Rattle.cell_intern.specs.cell_calls.cell_law.plain_state.declared.slot.SlotId.{SlotId}
+use Rattle.cell_intern.specs.cell_calls.cell_protocol.declared.law.CellLaw.{CellLaw}
+use Rattle.cell_intern.proofs.Below.cell_making_Kept.{drop_keeps}
+use Rattle.epoch_alone.proofs.Below.core_law_Kit.{one_same, times_append, times_cons, times_none, times_without}
+use Rattle.epoch_alone.proofs.Below.core_law_Lists.{each_same}
 use Rattle.epoch_alone.specs.Cells.{HaveSameCells}
 use Rattle.epoch_alone.specs.Lone.{KnowsBoth}
 use Rattle.epoch_alone.proofs.CellsStay.{LeavesCells, cells_in}
 use Rattle.epoch_alone.proofs.Known.{core_known, steps_known, whole_shown}
-use Rattle.epoch_core.specs.Runs.{after}
-use Rattle.epoch_core.specs.Shows.{shows}
-use Rattle.epoch_core.specs.Words.{cell_at}
-use Rattle.epoch_core.specs.core_events.Words.{slot_in}
-use Rattle.epoch_core.specs.declared.act.EpochAct.TheVariants as act
-use Rattle.epoch_core.specs.declared.outcome.EpochOutcome.{EpochOutcome}
-use Rattle.epoch_core.specs.declared.shape.EpochShape.{EpochShape}
-use Rattle.epoch_refs.specs.epoch_domain.Calls.{IsSameView, Steps, same_view}
-use Rattle.epoch_refs.specs.epoch_domain.Domains.{DomainState}
-use Rattle.epoch_refs.specs.epoch_domain.Seats.{SeatState}
-use Rattle.epoch_refs.specs.epoch_rule.Views.{core_in, own_of, whole_of}
+use Rattle.epoch_alone.specs.epoch_core.Runs.{after}
+use Rattle.epoch_alone.specs.epoch_core.Shows.{shows}
+use Rattle.epoch_alone.specs.epoch_core.Words.{cell_at}
+use Rattle.epoch_alone.specs.epoch_core.core_events.Words.{slot_in}
+use Rattle.epoch_alone.specs.epoch_core.declared.act.EpochAct.TheVariants as act
+use Rattle.epoch_alone.specs.epoch_core.declared.outcome.EpochOutcome.{EpochOutcome}
+use Rattle.epoch_alone.specs.epoch_core.declared.shape.EpochShape.{EpochShape}
+use Rattle.cell_intern.specs.epoch_refs.epoch_domain.Calls.{IsSameView, Steps, same_view}
+use Rattle.cell_intern.specs.epoch_refs.epoch_domain.Domains.{DomainState}
+use Rattle.cell_intern.specs.epoch_refs.epoch_domain.Seats.{SeatState}
+use Rattle.cell_intern.specs.epoch_refs.epoch_rule.Views.{core_in, own_of, whole_of}
 use Rattle.lane_work.specs.Keeping.{slots_of}
 use Rattle.lane_work.specs.counted_handles.Handles.{Handle}
 

@@ -7,3 +7,4 @@ pub mod Cleared
 pub mod Dropped
 pub mod Auditable
 pub mod Alive
+pub mod Below

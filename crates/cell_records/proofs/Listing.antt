@@ -5,9 +5,9 @@ use Rattle.std.specs.List.{All, Contains}
 use Rattle.std.specs.Map.{keys_of}
 use Rattle.std.proofs.lemmas.List.{map-append}
 use Rattle.std.proofs.lemmas.List.Elements.{All-push, Contains-append_right}
-use Rattle.cell_calls.specs.Keeping.{Learns}
-use Rattle.cell_calls.specs.cell_law.declared.view.View.{View}
-use Rattle.cell_calls.specs.cell_law.plain_state.declared.slot.SlotId.{SlotId}
+use Rattle.cell_intern.specs.cell_calls.Keeping.{Learns}
+use Rattle.cell_intern.specs.cell_calls.cell_law.declared.view.View.{View}
+use Rattle.cell_intern.specs.cell_calls.cell_law.plain_state.declared.slot.SlotId.{SlotId}
 use Rattle.tally_sums.proofs.Below.cdrc_text_Unique.{Contains-first}
 use Rattle.tally_sums.specs.Sums.{SumsUp, Tallies, counted_in}
 use Rattle.tally_sums.specs.cdrc_text.Tally.{shown_entries}

@@ -3,22 +3,22 @@ use Rattle.std.proofs.Common.{◌≡◌, ◌≢◌, ⊎_elim, ℕ, ◌+◌, ◌<
 use Rattle.std.specs.Prelude.{IsSome, None, Option, Some, slice_index, slice_index_or}
 use Rattle.std.proofs.lemmas.Bool.{cases_eq, cases_lt}
 use Rattle.std.proofs.lemmas.List.{get_or_past}
-use Rattle.cell_calls.specs.cell_law.declared.view.View.{View}
-use Rattle.cell_calls.specs.cell_law.plain_state.Places.{content}
-use Rattle.cell_calls.specs.cell_law.plain_state.State.{Plain}
-use Rattle.cell_calls.specs.cell_law.plain_state.declared.act.EventPlace.TheVariants.{Cell}
-use Rattle.cell_calls.specs.cell_law.plain_state.declared.slot.SlotId.{SlotId}
-use Rattle.core_law.proofs.Each.{length_each}
+use Rattle.cell_intern.specs.cell_calls.cell_law.declared.view.View.{View}
+use Rattle.cell_intern.specs.cell_calls.cell_law.plain_state.Places.{content}
+use Rattle.cell_intern.specs.cell_calls.cell_law.plain_state.State.{Plain}
+use Rattle.cell_intern.specs.cell_calls.cell_law.plain_state.declared.act.EventPlace.TheVariants.{Cell}
+use Rattle.cell_intern.specs.cell_calls.cell_law.plain_state.declared.slot.SlotId.{SlotId}
+use Rattle.epoch_alone.proofs.Below.core_law_Each.{length_each}
 use Rattle.epoch_alone.specs.Cells.{ClearsCell, HaveSameCells}
 use Rattle.epoch_alone.specs.Lone.{KnowsBoth}
 use Rattle.epoch_alone.proofs.Known.{core_known, one_state, whole_shown}
-use Rattle.epoch_core.specs.Shows.{shows}
-use Rattle.epoch_core.specs.core_events.Words.{slot_in}
-use Rattle.epoch_core.specs.Words.{cell_at}
-use Rattle.epoch_core.specs.declared.shape.EpochShape.{EpochShape}
-use Rattle.epoch_refs.specs.epoch_domain.Seats.{SeatState}
-use Rattle.epoch_refs.specs.epoch_rule.Views.{core_in, own_of}
-use Rattle.epoch_refs.specs.plain_protocol.Owns.{OwnPart}
+use Rattle.epoch_alone.specs.epoch_core.Shows.{shows}
+use Rattle.epoch_alone.specs.epoch_core.core_events.Words.{slot_in}
+use Rattle.epoch_alone.specs.epoch_core.Words.{cell_at}
+use Rattle.epoch_alone.specs.epoch_core.declared.shape.EpochShape.{EpochShape}
+use Rattle.cell_intern.specs.epoch_refs.epoch_domain.Seats.{SeatState}
+use Rattle.cell_intern.specs.epoch_refs.epoch_rule.Views.{core_in, own_of}
+use Rattle.cell_intern.specs.epoch_refs.plain_protocol.Owns.{OwnPart}
 use Rattle.cell_records.specs.Clearing.{KnowsNull}
 
 -- the first n cells are null

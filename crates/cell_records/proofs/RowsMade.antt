@@ -2,7 +2,7 @@
 use Rattle.std.proofs.Common.{◌≡◌, List, [], ◌∷◌, ◌++◌, ap, sym, subst, ◌∙◌}
 use Rattle.std.specs.List.{All}
 use Rattle.std.proofs.lemmas.List.Elements.{All-head, All-tail}
-use Rattle.plain_audit.specs.plain_state.declared.image.Heap.{Heap}
+use Rattle.cell_rest.specs.plain_audit.plain_state.declared.image.Heap.{Heap}
 use Rattle.tally_sums.specs.cdrc_text.declared.row.Row.{Row}
 use Rattle.cell_records.specs.Rows.{AreRowsOf, IsRowOf}
 use Rattle.cell_records.specs.declared.records.WordRecord.{WordRecord}

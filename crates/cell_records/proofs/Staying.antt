@@ -1,15 +1,15 @@
 -- A seat that is alone with records stays so over calls that keep what it has.
 use Rattle.std.proofs.Common.{◌≡◌, ℕ, List, length, refl, ap, ◌∙◌, arith}
-use Rattle.cell_calls.specs.Keeping.{Keeps, Learns}
-use Rattle.cell_calls.proofs.Keeping.{keeps_wider}
-use Rattle.cell_calls.specs.cell_law.declared.view.View.{View}
-use Rattle.cell_calls.specs.cell_law.plain_state.declared.slot.SlotId.{SlotId}
-use Rattle.cell_calls.specs.cell_protocol.declared.law.CellLaw.{CellLaw}
+use Rattle.cell_intern.specs.cell_calls.Keeping.{Keeps, Learns}
+use Rattle.cell_intern.proofs.Below.cell_calls_Keeping.{keeps_wider}
+use Rattle.cell_intern.specs.cell_calls.cell_law.declared.view.View.{View}
+use Rattle.cell_intern.specs.cell_calls.cell_law.plain_state.declared.slot.SlotId.{SlotId}
+use Rattle.cell_intern.specs.cell_calls.cell_protocol.declared.law.CellLaw.{CellLaw}
 use Rattle.cell_intern.proofs.Kept.{keeps_on}
-use Rattle.epoch_refs.specs.Walks.{IsAtRest}
-use Rattle.epoch_refs.specs.epoch_core.declared.view.EpochView.{EpochView}
-use Rattle.epoch_refs.specs.epoch_domain.Domains.{DomainState}
-use Rattle.epoch_refs.specs.epoch_domain.Seats.{SeatState}
+use Rattle.cell_intern.specs.epoch_refs.Walks.{IsAtRest}
+use Rattle.cell_intern.specs.epoch_refs.epoch_core.declared.view.EpochView.{EpochView}
+use Rattle.cell_intern.specs.epoch_refs.epoch_domain.Domains.{DomainState}
+use Rattle.cell_intern.specs.epoch_refs.epoch_domain.Seats.{SeatState}
 use Rattle.cell_records.specs.Root.{IsRoot}
 
 -- by what the seat has

@@ -1,17 +1,17 @@
 -- What a view tells of a word it goes on to tell where its seat learns more; so a walk never finds the word untold.
 use Rattle.std.proofs.Common.{ℕ, List, sym, subst, ⊎_elim}
-use Rattle.cell_calls.specs.Keeping.{Learns}
-use Rattle.cell_calls.specs.cell_law.Views.{TellsNone, bound_in}
-use Rattle.cell_calls.specs.cell_law.declared.view.View.{View}
-use Rattle.cell_calls.specs.cell_law.directory_law.Bytes.{IsTextOf}
-use Rattle.cell_calls.specs.cell_law.directory_law.Views.{In, rope}
-use Rattle.cell_calls.specs.cell_law.directory_law.declared.view.Rope.{Rope}
-use Rattle.cell_calls.specs.cell_law.plain_state.declared.slot.SlotId.{SlotId}
-use Rattle.cell_law.proofs.Kit.{in_either}
+use Rattle.cell_intern.specs.cell_calls.Keeping.{Learns}
+use Rattle.cell_intern.specs.cell_calls.cell_law.Views.{TellsNone, bound_in}
+use Rattle.cell_intern.specs.cell_calls.cell_law.declared.view.View.{View}
+use Rattle.cell_intern.specs.cell_calls.cell_law.directory_law.Bytes.{IsTextOf}
+use Rattle.cell_intern.specs.cell_calls.cell_law.directory_law.Views.{In, rope}
+use Rattle.cell_intern.specs.cell_calls.cell_law.directory_law.declared.view.Rope.{Rope}
+use Rattle.cell_intern.specs.cell_calls.cell_law.plain_state.declared.slot.SlotId.{SlotId}
+use Rattle.cell_rest.proofs.Below.cell_law_Kit.{in_either}
 use Rattle.cell_rest.specs.Kept.{TellsWord, told_by}
-use Rattle.directory_law.proofs.Bytes.{one_text}
-use Rattle.directory_law.proofs.Notes.{in_left, in_right}
-use Rattle.record_texts.specs.Texts.{text_of}
+use Rattle.cell_rest.proofs.Below.directory_law_Bytes.{one_text}
+use Rattle.cell_rest.proofs.Below.directory_law_Notes.{in_left, in_right}
+use Rattle.cell_intern.specs.record_texts.Texts.{text_of}
 use Rattle.cell_records.specs.Records.{IsTold}
 
 -- what was found is told

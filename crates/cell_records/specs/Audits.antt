@@ -1,20 +1,20 @@
 -- An audit of a whole state that has settled, and of which the law holds.
 use Rattle.std.specs.Prelude.{ℕ, List}
-use Rattle.cell_calls.specs.Cells.{area_of}
-use Rattle.cell_calls.specs.cell_law.Law.{CellLaw as Law}
-use Rattle.cell_calls.specs.cell_law.Views.{gone}
-use Rattle.cell_calls.specs.cell_law.declared.view.View.{View}
-use Rattle.cell_calls.specs.cell_protocol.declared.law.CellLaw.{CellLaw}
+use Rattle.cell_intern.specs.cell_calls.Cells.{area_of}
+use Rattle.cell_intern.specs.cell_calls.cell_law.Law.{CellLaw as Law}
+use Rattle.cell_intern.specs.cell_calls.cell_law.Views.{gone}
+use Rattle.cell_intern.specs.cell_calls.cell_law.declared.view.View.{View}
+use Rattle.cell_intern.specs.cell_calls.cell_protocol.declared.law.CellLaw.{CellLaw}
 use Rattle.cell_rest.specs.Rest.{HasNullCells}
-use Rattle.directory_law.specs.Bytes.{IsPiece, piece_weight}
+use Rattle.cell_rest.specs.directory_law.Bytes.{IsPiece, piece_weight}
 use Rattle.epoch_alone.specs.Lone.{KnowsLaw}
 use Rattle.epoch_alone.specs.Settled.{IsSettled}
-use Rattle.epoch_refs.specs.epoch_domain.Domains.{DomainState}
-use Rattle.epoch_refs.specs.epoch_domain.Seats.{SeatState}
-use Rattle.plain_audit.specs.Audits.{IsAudit}
-use Rattle.plain_audit.specs.heap_audit.declared.finding.Audit.{Audit}
-use Rattle.plain_audit.specs.plain_state.Images.{IsImage}
-use Rattle.plain_audit.specs.plain_state.declared.image.Heap.{Heap}
+use Rattle.cell_intern.specs.epoch_refs.epoch_domain.Domains.{DomainState}
+use Rattle.cell_intern.specs.epoch_refs.epoch_domain.Seats.{SeatState}
+use Rattle.cell_rest.specs.plain_audit.Audits.{IsAudit}
+use Rattle.cell_rest.specs.plain_audit.heap_audit.declared.finding.Audit.{Audit}
+use Rattle.cell_rest.specs.plain_audit.plain_state.Images.{IsImage}
+use Rattle.cell_rest.specs.plain_audit.plain_state.declared.image.Heap.{Heap}
 
 -- the law holds of the whole state, which the seat knows, with its view as the first
 abbrev pub KnowsCells : DomainState CellLaw → SeatState View → Type 0

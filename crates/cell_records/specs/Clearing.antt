@@ -1,12 +1,12 @@
 -- What a seat leaves that has cleared the cells.
 use Rattle.std.specs.Prelude.{◌≡◌, ◌<◌, true, Some}
-use Rattle.cell_calls.specs.cell_law.declared.view.View.{View}
-use Rattle.cell_calls.specs.cell_law.plain_state.declared.slot.SlotId.{SlotId}
-use Rattle.cell_calls.specs.cell_law.plain_state.Lists.{times}
-use Rattle.cell_calls.specs.cell_law.plain_state.State.{Plain}
+use Rattle.cell_intern.specs.cell_calls.cell_law.declared.view.View.{View}
+use Rattle.cell_intern.specs.cell_calls.cell_law.plain_state.declared.slot.SlotId.{SlotId}
+use Rattle.cell_intern.specs.cell_calls.cell_law.plain_state.Lists.{times}
+use Rattle.cell_intern.specs.cell_calls.cell_law.plain_state.State.{Plain}
 use Rattle.cell_rest.specs.Rest.{HasNullCells}
-use Rattle.epoch_refs.specs.epoch_domain.Seats.{SeatState}
-use Rattle.epoch_refs.specs.epoch_rule.Views.{object_in, own_of}
+use Rattle.cell_intern.specs.epoch_refs.epoch_domain.Seats.{SeatState}
+use Rattle.cell_intern.specs.epoch_refs.epoch_rule.Views.{object_in, own_of}
 
 -- in the whole state, where the seat knows it, all cells are null
 abbrev pub KnowsNull : SeatState View → Type 0

@@ -1,7 +1,7 @@
 -- The records of words that were counted, as a seat that is alone tells them.
 use Rattle.std.specs.Prelude.{◌^◌, ◌<◌, ◌≤◌, ℕ, List, length, map}
-use Rattle.cell_calls.specs.cell_law.declared.view.View.{View}
-use Rattle.cell_calls.specs.cell_law.plain_state.declared.slot.SlotId.{SlotId}
+use Rattle.cell_intern.specs.cell_calls.cell_law.declared.view.View.{View}
+use Rattle.cell_intern.specs.cell_calls.cell_law.plain_state.declared.slot.SlotId.{SlotId}
 use Rattle.cell_rest.specs.Kept.{TellsWord}
 use Rattle.cell_records.specs.declared.records.WordRecord.{WordRecord}
 use Rattle.tally_sums.specs.Sums.{Tallies, counted_in}

@@ -1,8 +1,8 @@
 -- The row of a record, by the image of a heap.
 use Rattle.std.specs.Prelude.{◌≡◌, ◌<◌, List, [], ◌∷◌, length}
 use Rattle.cell_records.specs.declared.records.WordRecord.{WordRecord}
-use Rattle.plain_audit.specs.plain_state.Images.{slot_image}
-use Rattle.plain_audit.specs.plain_state.declared.image.Heap.{Heap}
+use Rattle.cell_rest.specs.plain_audit.plain_state.Images.{slot_image}
+use Rattle.cell_rest.specs.plain_audit.plain_state.declared.image.Heap.{Heap}
 use Rattle.tally_sums.specs.cdrc_text.declared.row.Row.{Row}
 
 -- the image has the record's slot

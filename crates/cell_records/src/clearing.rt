@@ -4,9 +4,8 @@ ghost use Rattle.cell_records.specs.Clearing.{ClearsCells};
 ghost use Rattle.cell_records.specs.Root.{IsRoot};
 ghost use Rattle.epoch_alone.specs.Cells.{ClearsCell};
 
-use cell_calls::{CellLaw, ClearCell};
+use cell_intern::{CellLaw, ClearCell, EpochDomain, EpochSeat, Place, e_store};
 use epoch_alone::lone_knows;
-use epoch_refs::{EpochDomain, EpochSeat, Place, e_store};
 use std::alloc::Global;
 use tally_sums::OutOfMemory;
 

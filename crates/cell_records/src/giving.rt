@@ -1,14 +1,13 @@
 //! References that are given up.
 ghost use Rattle.std.specs.Prelude.{◌≡◌, ◌+◌, ◌<◌, ◌≤◌, [], ◌∷◌};
-ghost use Rattle.cell_calls.specs.cell_law.plain_state.declared.slot.SlotId.{SlotId};
-ghost use Rattle.cell_calls.specs.cell_law.plain_state.Lists.{times};
+ghost use Rattle.cell_intern.specs.cell_calls.cell_law.plain_state.declared.slot.SlotId.{SlotId};
+ghost use Rattle.cell_intern.specs.cell_calls.cell_law.plain_state.Lists.{times};
 ghost use Rattle.cell_records.specs.Clearing.{KnowsNull};
 ghost use Rattle.cell_records.specs.Root.{IsRoot};
 ghost use Rattle.lane_work.specs.Keeping.{slots_of};
 
-use cell_calls::CellLaw;
+use cell_intern::{CellLaw, EpochDomain, EpochSeat, Strong, e_drop};
 use epoch_alone::lone_knows;
-use epoch_refs::{EpochDomain, EpochSeat, Strong, e_drop};
 
 /// Gives up references that the seat owns. No cell changes. One event for each.
 pub fn give_all(domain: &EpochDomain<CellLaw>, root: &mut EpochSeat<CellLaw>, kept: Vec<Strong>)

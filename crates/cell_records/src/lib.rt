@@ -22,12 +22,16 @@ mod records;
 mod rows;
 
 pub use audits::{Audited, audit_at_rest, audit_line, list_ranks};
-pub use cell_calls::CellLaw;
+pub use cell_intern::{
+    CellLaw, EpochDomain, EpochSeat, Place, RecordKind, Strong, e_look, enter, exit,
+};
+pub use cell_rest::Deleter;
 pub use clearing::clear_cells;
-pub use deleter::Deleter;
-pub use directory_protocol::RecordKind;
-pub use epoch_refs::{EpochDomain, EpochSeat, Strong};
 pub use giving::give_all;
 pub use lives::learn_lives;
 pub use records::{WordRecord, find_records};
 pub use rows::count_rows;
+
+// What its callers take with it.
+pub use lane_work::count_pieces;
+pub use tally_sums::{Totals, report};

@@ -4,9 +4,8 @@ ghost use Rattle.cell_records.specs.Lives.{KnowsLives};
 ghost use Rattle.cell_records.specs.Root.{IsRoot};
 ghost use Rattle.epoch_alone.specs.Lone.{StaysAll};
 
-use cell_calls::CellLaw;
+use cell_intern::{CellLaw, EpochDomain, EpochSeat};
 use epoch_alone::learn_law;
-use epoch_refs::{EpochDomain, EpochSeat};
 
 /// Learns, as long as no cell is cleared, that the records of which the view tells are in the lives in which the seat
 /// knows them, where it owns them. Four events, by which nothing changes.

@@ -1,16 +1,14 @@
 //! The records of the words that were counted.
 ghost use Rattle.std.specs.Prelude.{◌≡◌, ◌≤◌, false, IfOk, length};
 ghost use Rattle.std.specs.List.{All};
-ghost use Rattle.cell_calls.specs.Keeping.{Keeps, Learns};
+ghost use Rattle.cell_intern.specs.cell_calls.Keeping.{Keeps, Learns};
 ghost use Rattle.cell_intern.specs.Interning.{IsInRegion};
 ghost use Rattle.cell_records.specs.Records.{AreTold, AreWords, IsRecordOf, IsTold, sums_in};
 ghost use Rattle.cell_records.specs.Root.{IsRoot};
 ghost use Rattle.cell_rest.specs.Kept.{TellsWord};
 ghost use Rattle.tally_sums.specs.Sums.{SumsUp};
 
-use cell_calls::CellLaw;
-use cell_finding::{Walk, seek, sought_text};
-use epoch_refs::{EpochDomain, EpochSeat, SlotId, enter, exit};
+use cell_intern::{CellLaw, EpochDomain, EpochSeat, SlotId, Walk, enter, exit, seek, sought_text};
 use std::alloc::Global;
 use std::thread::Threads;
 use tally_sums::{OutOfMemory, Tally, counted_words};

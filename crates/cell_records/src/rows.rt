@@ -4,7 +4,7 @@ ghost use Rattle.std.specs.List.{All};
 ghost use Rattle.cell_records.specs.Rows.{AreRowsOf, IsIn, IsRowOf};
 
 use crate::records::WordRecord;
-use plain_audit::Heap;
+use cell_rest::Heap;
 use std::alloc::Global;
 use tally_sums::{OutOfMemory, Row};
 

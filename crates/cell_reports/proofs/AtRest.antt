@@ -1,32 +1,32 @@
 -- What an audit of the whole state tells that has settled, with all cells null.
 use Rattle.std.proofs.Common.{◌≡◌, inl, inr, ℕ, List, [], ap, subst, ◌∙◌, arith}
 use Rattle.std.proofs.lemmas.Bool.{cases_lt}
-use Rattle.cell_calls.specs.Cells.{area_of}
+use Rattle.cell_records.specs.cell_calls.Cells.{area_of}
 use Rattle.cell_domain.specs.cell_lanes.cell_calls.cell_protocol.declared.law.CellLaw.{CellLaw}
-use Rattle.cell_law.specs.Law.{CellLaw as Law}
-use Rattle.cell_law.specs.Promises.{IsSettled, KnowsAll, owned_times}
-use Rattle.cell_law.specs.Views.{view_at}
-use Rattle.cell_law.specs.declared.view.View.{View}
-use Rattle.cell_law.specs.directory_law.Cells.{Area}
-use Rattle.cell_law.specs.plain_state.Places.{content}
-use Rattle.cell_law.specs.plain_state.State.{Plain, seat_at}
-use Rattle.cell_law.specs.plain_state.declared.act.EventPlace.TheVariants.{Cell}
-use Rattle.cell_law.specs.plain_state.declared.slot.SlotId.{SlotId}
-use Rattle.cell_law.proofs.Distinct.{root_knows}
-use Rattle.cell_law.proofs.Rest.{nothing_lives}
+use Rattle.cell_records.specs.cell_law.Law.{CellLaw as Law}
+use Rattle.cell_records.specs.cell_law.Promises.{IsSettled, KnowsAll, owned_times}
+use Rattle.cell_records.specs.cell_law.Views.{view_at}
+use Rattle.cell_records.specs.cell_law.declared.view.View.{View}
+use Rattle.cell_records.specs.cell_law.directory_law.Cells.{Area}
+use Rattle.cell_records.specs.cell_law.plain_state.Places.{content}
+use Rattle.cell_records.specs.cell_law.plain_state.State.{Plain, seat_at}
+use Rattle.cell_records.specs.cell_law.plain_state.declared.act.EventPlace.TheVariants.{Cell}
+use Rattle.cell_records.specs.cell_law.plain_state.declared.slot.SlotId.{SlotId}
+use Rattle.cell_records.proofs.Below.cell_law_Distinct.{root_knows}
+use Rattle.cell_records.proofs.Below.cell_law_Rest.{nothing_lives}
 use Rattle.cell_records.specs.Audits.{IsAudited}
 use Rattle.cell_records.specs.Clearing.{KnowsNull}
 use Rattle.cell_records.specs.epoch_alone.Settled as alone
-use Rattle.cell_rest.specs.Rest.{HasNoneDeferred}
-use Rattle.cell_rest.proofs.Left.{finds_nothing}
-use Rattle.cell_rest.proofs.Settled.{owned_none, rests_settled}
-use Rattle.epoch_alone.proofs.Known.{one_state}
-use Rattle.directory_law.specs.Bytes.{piece_weight}
-use Rattle.epoch_refs.specs.epoch_domain.Domains.{DomainState}
-use Rattle.epoch_refs.specs.epoch_domain.Seats.{SeatState}
-use Rattle.cell_rest.specs.plain_audit.heap_audit.declared.finding.Audit.{Audit}
-use Rattle.cell_rest.specs.plain_audit.plain_state.declared.image.Heap.{Heap}
-use Rattle.cell_rest.specs.record_counts.Records.{FindsRecords}
+use Rattle.cell_records.specs.cell_rest.Rest.{HasNoneDeferred}
+use Rattle.cell_records.proofs.Below.cell_rest_Left.{finds_nothing}
+use Rattle.cell_records.proofs.Below.cell_rest_Settled.{owned_none, rests_settled}
+use Rattle.cell_records.proofs.Below.epoch_alone_Known.{one_state}
+use Rattle.cell_records.specs.directory_law.Bytes.{piece_weight}
+use Rattle.cell_records.specs.epoch_refs.epoch_domain.Domains.{DomainState}
+use Rattle.cell_records.specs.epoch_refs.epoch_domain.Seats.{SeatState}
+use Rattle.cell_records.specs.cell_rest.plain_audit.heap_audit.declared.finding.Audit.{Audit}
+use Rattle.cell_records.specs.cell_rest.plain_audit.plain_state.declared.image.Heap.{Heap}
+use Rattle.cell_records.specs.cell_rest.record_counts.Records.{FindsRecords}
 use Rattle.cell_reports.specs.Last.{KnowsNoneLive}
 
 module _ (d : DomainState CellLaw) (ranks : List ℕ) (seat : SeatState View) (image : Heap)

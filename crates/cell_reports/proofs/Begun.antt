@@ -9,11 +9,11 @@ use Rattle.cell_domain.specs.declared.ending.LaneEnd.{LaneEnd}
 use Rattle.cell_gathering.specs.Gathering.{IsBare}
 use Rattle.cell_gathering.specs.Ran.{EachRan, HasNothing, HasRun}
 use Rattle.cell_gathering.specs.declared.done.Done.{Done}
-use Rattle.epoch_refs.specs.epoch_core.declared.shape.EpochShape.{EpochShape}
-use Rattle.epoch_refs.specs.epoch_core.declared.view.EpochView.{EpochView}
-use Rattle.epoch_refs.specs.epoch_domain.Domains.{DomainState}
-use Rattle.epoch_refs.specs.epoch_domain.Seats.{SeatState}
-use Rattle.lane_work.specs.declared.work.Work.{Work}
+use Rattle.cell_records.specs.epoch_refs.epoch_core.declared.shape.EpochShape.{EpochShape}
+use Rattle.cell_records.specs.epoch_refs.epoch_core.declared.view.EpochView.{EpochView}
+use Rattle.cell_records.specs.epoch_refs.epoch_domain.Domains.{DomainState}
+use Rattle.cell_records.specs.epoch_refs.epoch_domain.Seats.{SeatState}
+use Rattle.cell_records.specs.lane_work.declared.work.Work.{Work}
 use Rattle.cell_reports.specs.Parting.{AllRan, IsReadyEnd, RanToEnd}
 use Rattle.cell_reports.proofs.Ran.{ran_at, ran_many}
 

@@ -3,35 +3,35 @@
 use Rattle.std.proofs.Common.{◌≡◌, inl, inr, ⊎_elim, ℕ, zero, suc, List, [], ◌∷◌, ◌++◌, refl, ap, sym, ◌∙◌, subst}
 use Rattle.std.specs.Prelude.{None, Option, Some}
 use Rattle.std.specs.List.{flat_map}
-use Rattle.cell_calls.specs.Cells.{area_of}
-use Rattle.cell_calls.specs.Keeping.{GoesUnclaimed}
-use Rattle.cell_calls.proofs.Keeping.{unclaimed_then}
-use Rattle.cell_law.specs.Law.{CellLaw as Law}
-use Rattle.cell_law.specs.Views.{AreDistinct, all_bound, bound_in, gone, texts_of, view_at}
-use Rattle.cell_law.specs.declared.view.View.{View}
-use Rattle.cell_law.specs.directory_law.Payloads.{Text}
-use Rattle.cell_law.specs.directory_law.Views.{In}
-use Rattle.cell_law.specs.directory_law.declared.view.Rope.{Rope}
-use Rattle.cell_law.proofs.Distinct.{texts_and_words}
+use Rattle.cell_records.specs.cell_calls.Cells.{area_of}
+use Rattle.cell_records.specs.cell_calls.Keeping.{GoesUnclaimed}
+use Rattle.cell_records.proofs.Below.cell_calls_Keeping.{unclaimed_then}
+use Rattle.cell_records.specs.cell_law.Law.{CellLaw as Law}
+use Rattle.cell_records.specs.cell_law.Views.{AreDistinct, all_bound, bound_in, gone, texts_of, view_at}
+use Rattle.cell_records.specs.cell_law.declared.view.View.{View}
+use Rattle.cell_records.specs.cell_law.directory_law.Payloads.{Text}
+use Rattle.cell_records.specs.cell_law.directory_law.Views.{In}
+use Rattle.cell_records.specs.cell_law.directory_law.declared.view.Rope.{Rope}
+use Rattle.cell_records.proofs.Below.cell_law_Distinct.{texts_and_words}
 use Rattle.cell_domain.specs.cell_lanes.Ready.{IsReady}
 use Rattle.cell_domain.specs.cell_lanes.cell_calls.cell_protocol.declared.law.CellLaw.{CellLaw}
-use Rattle.directory_law.specs.Bytes.{IsPiece}
-use Rattle.epoch_alone.proofs.Back.{back}
-use Rattle.epoch_alone.proofs.Learns.{LearnsAllows, LearnsNext}
-use Rattle.epoch_refs.specs.Calls.{Enters}
-use Rattle.epoch_refs.specs.Walks.{IsAtRest, IsFree, move}
-use Rattle.epoch_refs.specs.epoch_core.declared.act.EpochAct.TheVariants as act
-use Rattle.epoch_refs.specs.epoch_core.declared.outcome.EpochOutcome.{EpochOutcome}
-use Rattle.epoch_refs.specs.epoch_core.declared.outcome.EpochOutcome.TheVariants as outcome
-use Rattle.epoch_refs.specs.epoch_core.core_events.Words.{slot_in}
-use Rattle.epoch_refs.specs.epoch_core.Steps.{saw}
-use Rattle.epoch_refs.specs.epoch_core.declared.view.EpochMove.{EpochMove}
-use Rattle.epoch_refs.specs.epoch_core.declared.view.EpochView.{EpochView}
-use Rattle.epoch_refs.specs.epoch_core.plain_state.declared.act.EventPlace.{EventPlace}
-use Rattle.epoch_refs.specs.epoch_core.plain_state.declared.slot.SlotId.{SlotId}
-use Rattle.epoch_refs.specs.epoch_domain.Calls.{IsSameView, Steps, same_view}
-use Rattle.epoch_refs.specs.epoch_domain.Domains.{DomainState}
-use Rattle.epoch_refs.specs.epoch_domain.Seats.{SeatState}
+use Rattle.cell_records.specs.directory_law.Bytes.{IsPiece}
+use Rattle.cell_records.proofs.Below.epoch_alone_Back.{back}
+use Rattle.cell_records.proofs.Below.epoch_alone_Learns.{LearnsAllows, LearnsNext}
+use Rattle.cell_records.specs.epoch_refs.Calls.{Enters}
+use Rattle.cell_records.specs.epoch_refs.Walks.{IsAtRest, IsFree, move}
+use Rattle.cell_records.specs.epoch_refs.epoch_core.declared.act.EpochAct.TheVariants as act
+use Rattle.cell_records.specs.epoch_refs.epoch_core.declared.outcome.EpochOutcome.{EpochOutcome}
+use Rattle.cell_records.specs.epoch_refs.epoch_core.declared.outcome.EpochOutcome.TheVariants as outcome
+use Rattle.cell_records.specs.epoch_refs.epoch_core.core_events.Words.{slot_in}
+use Rattle.cell_records.specs.epoch_refs.epoch_core.Steps.{saw}
+use Rattle.cell_records.specs.epoch_refs.epoch_core.declared.view.EpochMove.{EpochMove}
+use Rattle.cell_records.specs.epoch_refs.epoch_core.declared.view.EpochView.{EpochView}
+use Rattle.cell_records.specs.epoch_refs.epoch_core.plain_state.declared.act.EventPlace.{EventPlace}
+use Rattle.cell_records.specs.epoch_refs.epoch_core.plain_state.declared.slot.SlotId.{SlotId}
+use Rattle.cell_records.specs.epoch_refs.epoch_domain.Calls.{IsSameView, Steps, same_view}
+use Rattle.cell_records.specs.epoch_refs.epoch_domain.Domains.{DomainState}
+use Rattle.cell_records.specs.epoch_refs.epoch_domain.Seats.{SeatState}
 use Rattle.cell_reports.specs.Parting.{LearnsHeads}
 
 -- TEXTS that differ in a list differ in its parts

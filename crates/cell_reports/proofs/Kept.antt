@@ -1,8 +1,8 @@
 -- What seat 0 knows of the records that it keeps, once cells are cleared and all has settled.
 use Rattle.std.proofs.Common.{◌≡◌, ⊎_elim, inl, inr, ℕ, ◌+◌, ◌<◌, All, true, refl, List, [], ◌∷◌, ◌++◌, sym, ap, subst, ◌∙◌, arith}
 use Rattle.std.specs.Prelude.{◌↔◌}
-use Rattle.cell_calls.specs.Cells.{area_of}
-use Rattle.cell_calls.specs.Keeping.{Keeps, Learns}
+use Rattle.cell_records.specs.cell_calls.Cells.{area_of}
+use Rattle.cell_records.specs.cell_calls.Keeping.{Keeps, Learns}
 use Rattle.cell_domain.specs.cell_lanes.cell_calls.cell_protocol.declared.law.CellLaw.{CellLaw}
 use Rattle.cell_gathering.specs.Shares.{gathered_files, tickets_of}
 use Rattle.cell_gathering.specs.cdrc_text.Fold.{File, holders_in}
@@ -10,44 +10,44 @@ use Rattle.cell_gathering.proofs.Bytes.{no_bytes}
 use Rattle.cell_gathering.proofs.Files.{each_kept, same_holders}
 use Rattle.cell_gathering.proofs.Shares.{each_ticket}
 use Rattle.cell_gathering.proofs.Told.{word_is_told}
-use Rattle.cell_law.specs.Views.{AreDistinct, bound_in, view_at, words_of}
-use Rattle.cell_law.specs.declared.view.View.{View}
-use Rattle.cell_law.specs.directory_law.Bytes.{text_bytes}
-use Rattle.cell_law.specs.directory_law.Views.{In, rope}
-use Rattle.cell_law.specs.directory_law.declared.view.Rope.{Rope}
-use Rattle.cell_law.specs.plain_state.Lists.{times}
-use Rattle.cell_law.specs.plain_state.References.{strong_refs}
-use Rattle.cell_law.specs.plain_state.State.{Plain}
-use Rattle.cell_law.specs.plain_state.declared.slot.SlotId.{SlotId}
-use Rattle.cell_law.proofs.Distinct.{one_head}
-use Rattle.cell_law.proofs.Kit.{in_either}
+use Rattle.cell_records.specs.cell_law.Views.{AreDistinct, bound_in, view_at, words_of}
+use Rattle.cell_records.specs.cell_law.declared.view.View.{View}
+use Rattle.cell_records.specs.cell_law.directory_law.Bytes.{text_bytes}
+use Rattle.cell_records.specs.cell_law.directory_law.Views.{In, rope}
+use Rattle.cell_records.specs.cell_law.directory_law.declared.view.Rope.{Rope}
+use Rattle.cell_records.specs.cell_law.plain_state.Lists.{times}
+use Rattle.cell_records.specs.cell_law.plain_state.References.{strong_refs}
+use Rattle.cell_records.specs.cell_law.plain_state.State.{Plain}
+use Rattle.cell_records.specs.cell_law.plain_state.declared.slot.SlotId.{SlotId}
+use Rattle.cell_records.proofs.Below.cell_law_Distinct.{one_head}
+use Rattle.cell_records.proofs.Below.cell_law_Kit.{in_either}
 use Rattle.cell_records.specs.Audits.{IsAudited}
 use Rattle.cell_records.specs.Clearing.{ClearsCells}
 use Rattle.cell_records.specs.Lives.{KnowsLives}
 use Rattle.cell_records.proofs.Alive.{lives_on}
 use Rattle.cell_records.proofs.Telling.{told_on}
-use Rattle.cell_rest.specs.Kept.{KeepsRecordsOf, TellsFiles, TellsOfNow, TellsWord, told_by}
-use Rattle.cell_rest.proofs.Joining.{tells_more}
-use Rattle.cell_rest.proofs.KeptWords.{told_refs, words_told}
-use Rattle.cell_rest.specs.plain_audit.heap_audit.declared.finding.Audit.{Audit}
-use Rattle.cell_rest.specs.plain_audit.plain_state.declared.image.Heap.{Heap}
-use Rattle.domain_audit.proofs.Below.slot_store_Turning.{nothing_in}
-use Rattle.directory_law.specs.Bytes.{AreBytes}
-use Rattle.directory_law.proofs.Bytes.{text_tells}
-use Rattle.epoch_alone.specs.Lone.{StaysAll}
-use Rattle.epoch_alone.proofs.Objects.{own_has}
-use Rattle.epoch_refs.specs.epoch_core.declared.view.EpochView.{EpochView}
-use Rattle.epoch_refs.specs.epoch_domain.Domains.{DomainState}
-use Rattle.epoch_refs.specs.epoch_domain.Seats.{SeatState}
-use Rattle.epoch_refs.specs.plain_protocol.Owns.{Object}
-use Rattle.epoch_alone.specs.epoch_settling.Settling.{StaysBut}
-use Rattle.lane_work.specs.Keeping.{slots_of}
-use Rattle.lane_work.specs.Sizes.{texts_in}
-use Rattle.lane_work.specs.Work.{IsWork}
-use Rattle.lane_work.specs.counted_handles.Handles.{Handle}
-use Rattle.lane_work.specs.declared.work.Work.{Work}
-use Rattle.record_texts.proofs.Packed.{is_text_of}
-use Rattle.tally_sums.specs.Sums.{Tallies}
+use Rattle.cell_records.specs.cell_rest.Kept.{KeepsRecordsOf, TellsFiles, TellsOfNow, TellsWord, told_by}
+use Rattle.cell_records.proofs.Below.cell_rest_Joining.{tells_more}
+use Rattle.cell_records.proofs.Below.cell_rest_KeptWords.{told_refs, words_told}
+use Rattle.cell_records.specs.cell_rest.plain_audit.heap_audit.declared.finding.Audit.{Audit}
+use Rattle.cell_records.specs.cell_rest.plain_audit.plain_state.declared.image.Heap.{Heap}
+use Rattle.cell_records.proofs.Below.slot_store_Turning.{nothing_in}
+use Rattle.cell_records.specs.directory_law.Bytes.{AreBytes}
+use Rattle.cell_records.proofs.Below.directory_law_Bytes.{text_tells}
+use Rattle.cell_records.specs.epoch_alone.Lone.{StaysAll}
+use Rattle.cell_records.proofs.Below.epoch_alone_Objects.{own_has}
+use Rattle.cell_records.specs.epoch_refs.epoch_core.declared.view.EpochView.{EpochView}
+use Rattle.cell_records.specs.epoch_refs.epoch_domain.Domains.{DomainState}
+use Rattle.cell_records.specs.epoch_refs.epoch_domain.Seats.{SeatState}
+use Rattle.cell_records.specs.epoch_refs.plain_protocol.Owns.{Object}
+use Rattle.cell_records.specs.epoch_alone.epoch_settling.Settling.{StaysBut}
+use Rattle.cell_records.specs.lane_work.Keeping.{slots_of}
+use Rattle.cell_records.specs.lane_work.Sizes.{texts_in}
+use Rattle.cell_records.specs.lane_work.Work.{IsWork}
+use Rattle.cell_records.specs.lane_work.counted_handles.Handles.{Handle}
+use Rattle.cell_records.specs.lane_work.declared.work.Work.{Work}
+use Rattle.cell_records.proofs.Below.record_texts_Packed.{is_text_of}
+use Rattle.cell_records.specs.tally_sums.Sums.{Tallies}
 use Rattle.cell_reports.specs.Counted.{HasCounted}
 use Rattle.cell_reports.specs.Last.{ListsWords}
 use Rattle.cell_reports.proofs.AtRest.{at_rest, lists_all, root_is}

@@ -10,22 +10,22 @@ use Rattle.cell_domain.specs.cell_lanes.cell_calls.cell_protocol.declared.law.Ce
 use Rattle.cell_domain.specs.cell_lanes.declared.refusal.LaneStop.{LaneStop}
 use Rattle.cell_domain.specs.cell_lanes.declared.refusal.LaneStop.TheVariants as stopped
 use Rattle.cell_domain.specs.declared.ending.LaneEnd.{LaneEnd}
-use Rattle.cell_calls.proofs.Keeping.{claim_none_then}
+use Rattle.cell_records.proofs.Below.cell_calls_Keeping.{claim_none_then}
 use Rattle.cell_domain.proofs.Alone.{one_lacks}
 use Rattle.cell_domain.proofs.Enough.{makes_left, slots_lacked, stops_with}
 use Rattle.cell_domain.proofs.Numbers.{many}
-use Rattle.epoch_refs.specs.epoch_core.core_events.declared.shape.Quota.{Quota}
-use Rattle.epoch_refs.specs.epoch_core.declared.shape.EpochShape.{EpochShape}
-use Rattle.epoch_refs.specs.epoch_core.declared.view.EpochMove.{EpochMove}
-use Rattle.epoch_refs.specs.epoch_core.declared.view.EpochView.{EpochView}
-use Rattle.epoch_refs.specs.epoch_domain.Calls.{IsOf}
-use Rattle.epoch_refs.specs.epoch_domain.Domains.{DomainState}
-use Rattle.epoch_refs.specs.epoch_domain.Seats.{SeatState}
-use Rattle.epoch_refs.specs.Searching.{taken_by}
-use Rattle.lane_work.specs.Sizes.{slots_of_words, texts_in}
-use Rattle.lane_work.specs.cdrc_text.Fold.{AreDistinct as AreAllWords}
-use Rattle.lane_work.specs.Work.{IsWork, all_tickets}
-use Rattle.lane_work.specs.declared.work.Work.{Work}
+use Rattle.cell_records.specs.epoch_refs.epoch_core.core_events.declared.shape.Quota.{Quota}
+use Rattle.cell_records.specs.epoch_refs.epoch_core.declared.shape.EpochShape.{EpochShape}
+use Rattle.cell_records.specs.epoch_refs.epoch_core.declared.view.EpochMove.{EpochMove}
+use Rattle.cell_records.specs.epoch_refs.epoch_core.declared.view.EpochView.{EpochView}
+use Rattle.cell_records.specs.epoch_refs.epoch_domain.Calls.{IsOf}
+use Rattle.cell_records.specs.epoch_refs.epoch_domain.Domains.{DomainState}
+use Rattle.cell_records.specs.epoch_refs.epoch_domain.Seats.{SeatState}
+use Rattle.cell_records.specs.epoch_refs.Searching.{taken_by}
+use Rattle.cell_records.specs.lane_work.Sizes.{slots_of_words, texts_in}
+use Rattle.cell_records.specs.lane_work.cdrc_text.Fold.{AreDistinct as AreAllWords}
+use Rattle.cell_records.specs.lane_work.Work.{IsWork, all_tickets}
+use Rattle.cell_records.specs.lane_work.declared.work.Work.{Work}
 use Rattle.cell_reports.specs.declared.counted.EpochCountError.{EpochCountError}
 use Rattle.cell_reports.specs.declared.counted.EpochCountError.TheVariants as refused
 use Rattle.cell_reports.specs.Parting.{IsAnswerFor, IsFirstRefusal, LearnsHeads}

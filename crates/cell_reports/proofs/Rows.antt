@@ -4,27 +4,27 @@ use Rattle.std.specs.Prelude.{◌↔◌, All, map}
 use Rattle.std.specs.List.{Contains}
 use Rattle.std.specs.Map.{keys_of}
 use Rattle.std.proofs.lemmas.List.Elements.{All-cons, All-head, All-tail}
-use Rattle.tally_sums.proofs.Below.cdrc_text_Unique.{Contains-first, Contains-later}
+use Rattle.cell_records.proofs.Below.cdrc_text_Unique.{Contains-first, Contains-later}
 use Rattle.cell_gathering.specs.cdrc_text.Fold.{IsInByteOrder, holders_in, occurrences_in}
 use Rattle.cell_gathering.specs.cdrc_text.Text.{word_of}
-use Rattle.cell_law.specs.declared.view.View.{View}
-use Rattle.cell_law.specs.plain_state.Lists.{times}
-use Rattle.cell_law.specs.plain_state.References.{strong_refs}
-use Rattle.cell_law.specs.plain_state.State.{Plain}
-use Rattle.cell_law.specs.plain_state.declared.slot.SlotId.{SlotId}
+use Rattle.cell_records.specs.cell_law.declared.view.View.{View}
+use Rattle.cell_records.specs.cell_law.plain_state.Lists.{times}
+use Rattle.cell_records.specs.cell_law.plain_state.References.{strong_refs}
+use Rattle.cell_records.specs.cell_law.plain_state.State.{Plain}
+use Rattle.cell_records.specs.cell_law.plain_state.declared.slot.SlotId.{SlotId}
 use Rattle.cell_records.specs.Records.{IsRecordOf, slots_in, sums_in, words_in}
 use Rattle.cell_records.specs.Rows.{AreRowsOf}
 use Rattle.cell_records.specs.declared.records.WordRecord.{WordRecord}
-use Rattle.cell_rest.specs.Kept.{TellsWord}
-use Rattle.cell_rest.specs.Written.{AreRowsAt, HaveWords}
-use Rattle.cell_rest.specs.plain_audit.plain_state.Images.{slot_image}
-use Rattle.cell_rest.specs.plain_audit.plain_state.declared.image.Heap.{Heap}
-use Rattle.lane_work.specs.Sizes.{texts_in}
-use Rattle.lane_work.specs.Work.{IsWork}
-use Rattle.lane_work.specs.declared.work.Work.{Work}
-use Rattle.tally_sums.specs.Sums.{AreCounted, IsSum, SumsUp, Tallies, counted_in}
-use Rattle.tally_sums.specs.cdrc_text.declared.row.Row.{Row}
-use Rattle.tally_sums.proofs.Below.cdrc_text_Listed.{held-occurs, occurs-held}
+use Rattle.cell_records.specs.cell_rest.Kept.{TellsWord}
+use Rattle.cell_records.specs.cell_rest.Written.{AreRowsAt, HaveWords}
+use Rattle.cell_records.specs.cell_rest.plain_audit.plain_state.Images.{slot_image}
+use Rattle.cell_records.specs.cell_rest.plain_audit.plain_state.declared.image.Heap.{Heap}
+use Rattle.cell_records.specs.lane_work.Sizes.{texts_in}
+use Rattle.cell_records.specs.lane_work.Work.{IsWork}
+use Rattle.cell_records.specs.lane_work.declared.work.Work.{Work}
+use Rattle.cell_records.specs.tally_sums.Sums.{AreCounted, IsSum, SumsUp, Tallies, counted_in}
+use Rattle.cell_records.specs.tally_sums.cdrc_text.declared.row.Row.{Row}
+use Rattle.cell_records.proofs.Below.cdrc_text_Listed.{held-occurs, occurs-held}
 
 -- the records and the rows are of the same words
 words_same : (image : Heap) (records : List WordRecord) (rows : List Row)

@@ -9,18 +9,18 @@ use Rattle.std.proofs.lemmas.List.Elements.{All-head, All-map, All-tail}
 use Rattle.std.proofs.lemmas.List.Sums.{count_by-le-length, sum_by-cons, sum_by-le-sum_by}
 use Rattle.cell_gathering.proofs.Told.{word_is_told}
 use Rattle.cell_gathering.specs.cdrc_text.Fold.{File, holders_in, times}
-use Rattle.cell_law.specs.declared.view.View.{View}
+use Rattle.cell_records.specs.cell_law.declared.view.View.{View}
 use Rattle.cell_records.specs.Records.{AreTold, AreWords}
-use Rattle.epoch_refs.specs.epoch_domain.Seats.{SeatState}
-use Rattle.lane_work.specs.FilePieces.{HasPieces, pieces_in}
-use Rattle.lane_work.specs.Keeping.{slots_of}
-use Rattle.lane_work.specs.Sizes.{IsWithinLimits, all_pieces, texts_in}
-use Rattle.lane_work.specs.Work.{IsWork}
-use Rattle.lane_work.specs.counted_handles.Handles.{Handle}
-use Rattle.lane_work.specs.declared.work.Work.{Work}
-use Rattle.lane_work.proofs.Pieces.{pieces_many, sized}
-use Rattle.tally_sums.specs.Sums.{Tallies, counted_in}
-use Rattle.tally_sums.proofs.Below.cdrc_text_Listed.{occurs-held}
+use Rattle.cell_records.specs.epoch_refs.epoch_domain.Seats.{SeatState}
+use Rattle.cell_records.specs.lane_work.FilePieces.{HasPieces, pieces_in}
+use Rattle.cell_records.specs.lane_work.Keeping.{slots_of}
+use Rattle.cell_records.specs.lane_work.Sizes.{IsWithinLimits, all_pieces, texts_in}
+use Rattle.cell_records.specs.lane_work.Work.{IsWork}
+use Rattle.cell_records.specs.lane_work.counted_handles.Handles.{Handle}
+use Rattle.cell_records.specs.lane_work.declared.work.Work.{Work}
+use Rattle.cell_records.proofs.Below.lane_work_Pieces.{pieces_many, sized}
+use Rattle.cell_records.specs.tally_sums.Sums.{Tallies, counted_in}
+use Rattle.cell_records.proofs.Below.cdrc_text_Listed.{occurs-held}
 use Rattle.cell_reports.specs.Counted.{HasCounted}
 
 -- 1 to 4,096 bytes

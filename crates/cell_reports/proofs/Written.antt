@@ -3,40 +3,40 @@ use Rattle.std.proofs.Common.{◌≡◌, inl, inr, ℕ, ◌<◌, All, List, [], 
 use Rattle.std.specs.Prelude.{length}
 use Rattle.std.proofs.lemmas.Bool.{cases_lt}
 use Rattle.std.proofs.lemmas.List.{get_or_past, length-map}
-use Rattle.cell_calls.specs.Cells.{area_of}
+use Rattle.cell_records.specs.cell_calls.Cells.{area_of}
 use Rattle.cell_domain.specs.cell_lanes.cell_calls.cell_protocol.declared.law.CellLaw.{CellLaw}
 use Rattle.cell_gathering.specs.cdrc_text.Fold.{File, holders_in}
 use Rattle.cell_gathering.specs.cdrc_text.Report.{report_of}
 use Rattle.cell_gathering.specs.cdrc_text.Text.{IsReport}
-use Rattle.cell_law.specs.declared.view.View.{View}
-use Rattle.cell_law.specs.plain_state.References.{strong_refs}
-use Rattle.cell_law.specs.plain_state.State.{Plain, new_slot}
-use Rattle.cell_law.specs.plain_state.declared.slot.PlainSlot.{PlainSlot}
-use Rattle.cell_law.specs.plain_state.declared.slot.SlotId.{SlotId}
+use Rattle.cell_records.specs.cell_law.declared.view.View.{View}
+use Rattle.cell_records.specs.cell_law.plain_state.References.{strong_refs}
+use Rattle.cell_records.specs.cell_law.plain_state.State.{Plain, new_slot}
+use Rattle.cell_records.specs.cell_law.plain_state.declared.slot.PlainSlot.{PlainSlot}
+use Rattle.cell_records.specs.cell_law.plain_state.declared.slot.SlotId.{SlotId}
 use Rattle.cell_records.specs.Audits.{IsAudited}
 use Rattle.cell_records.specs.Records.{IsRecordOf, slots_in, sums_in}
 use Rattle.cell_records.specs.Rows.{AreRowsOf, IsIn}
 use Rattle.cell_records.specs.declared.records.WordRecord.{WordRecord}
-use Rattle.cell_rest.specs.Kept.{TellsWord}
-use Rattle.cell_rest.specs.Written.{AreRowsAt, line_of, totals_found}
-use Rattle.cell_rest.proofs.Left.{is_report}
-use Rattle.cell_rest.specs.plain_audit.heap_audit.declared.finding.Audit.{Audit}
-use Rattle.cell_rest.specs.plain_audit.plain_state.Images.{slot_image}
-use Rattle.cell_rest.specs.plain_audit.plain_state.declared.image.Heap.{Heap}
-use Rattle.directory_law.specs.Bytes.{AreBytes}
-use Rattle.epoch_alone.proofs.Settled.{counted as image_counts}
-use Rattle.epoch_refs.specs.epoch_domain.Domains.{DomainState}
-use Rattle.epoch_refs.specs.epoch_domain.Seats.{SeatState}
-use Rattle.lane_work.specs.FilePieces.{pieces_in}
-use Rattle.lane_work.specs.Keeping.{slots_of}
-use Rattle.lane_work.specs.Sizes.{all_pieces, texts_in}
-use Rattle.lane_work.specs.Work.{IsWork}
-use Rattle.lane_work.specs.counted_handles.Handles.{Handle}
-use Rattle.lane_work.specs.declared.work.Work.{Work}
-use Rattle.cell_rest.specs.record_counts.Records.{FindsRecords}
-use Rattle.tally_sums.specs.Sums.{SumsUp, Tallies}
-use Rattle.tally_sums.specs.cdrc_text.declared.row.Row.{Row}
-use Rattle.tally_sums.specs.cdrc_text.declared.row.Totals.{Totals}
+use Rattle.cell_records.specs.cell_rest.Kept.{TellsWord}
+use Rattle.cell_records.specs.cell_rest.Written.{AreRowsAt, line_of, totals_found}
+use Rattle.cell_records.proofs.Below.cell_rest_Left.{is_report}
+use Rattle.cell_records.specs.cell_rest.plain_audit.heap_audit.declared.finding.Audit.{Audit}
+use Rattle.cell_records.specs.cell_rest.plain_audit.plain_state.Images.{slot_image}
+use Rattle.cell_records.specs.cell_rest.plain_audit.plain_state.declared.image.Heap.{Heap}
+use Rattle.cell_records.specs.directory_law.Bytes.{AreBytes}
+use Rattle.cell_records.proofs.Below.epoch_alone_Settled.{counted as image_counts}
+use Rattle.cell_records.specs.epoch_refs.epoch_domain.Domains.{DomainState}
+use Rattle.cell_records.specs.epoch_refs.epoch_domain.Seats.{SeatState}
+use Rattle.cell_records.specs.lane_work.FilePieces.{pieces_in}
+use Rattle.cell_records.specs.lane_work.Keeping.{slots_of}
+use Rattle.cell_records.specs.lane_work.Sizes.{all_pieces, texts_in}
+use Rattle.cell_records.specs.lane_work.Work.{IsWork}
+use Rattle.cell_records.specs.lane_work.counted_handles.Handles.{Handle}
+use Rattle.cell_records.specs.lane_work.declared.work.Work.{Work}
+use Rattle.cell_records.specs.cell_rest.record_counts.Records.{FindsRecords}
+use Rattle.cell_records.specs.tally_sums.Sums.{SumsUp, Tallies}
+use Rattle.cell_records.specs.tally_sums.cdrc_text.declared.row.Row.{Row}
+use Rattle.cell_records.specs.tally_sums.cdrc_text.declared.row.Totals.{Totals}
 use Rattle.cell_reports.specs.Counted.{HasCounted}
 use Rattle.cell_reports.proofs.AtRest.{at_rest, root_is, waits_none}
 use Rattle.cell_reports.proofs.Kept.{Reaches, client_as, has_refs, is_kept, keeps_records, same_files}

@@ -3,18 +3,18 @@ use Rattle.std.specs.Prelude.{ℕ, ◌≡◌, ◌<◌, List, []}
 use Rattle.cell_gathering.specs.Gathering.{IsTextIn}
 use Rattle.cell_gathering.specs.Shares.{gathered_files}
 use Rattle.cell_gathering.specs.cdrc_text.Fold.{occurrences_in}
-use Rattle.cell_law.specs.declared.view.View.{View}
-use Rattle.cell_law.specs.directory_law.Views.{In}
-use Rattle.cell_law.specs.directory_law.declared.view.Rope.{Rope}
-use Rattle.cell_law.specs.plain_state.Lists.{times}
-use Rattle.cell_law.specs.plain_state.declared.slot.SlotId.{SlotId}
-use Rattle.cell_rest.specs.Kept.{TellsFiles}
-use Rattle.epoch_refs.specs.epoch_domain.Seats.{SeatState}
-use Rattle.lane_work.specs.Keeping.{slots_of}
-use Rattle.lane_work.specs.Sizes.{texts_in}
-use Rattle.lane_work.specs.counted_handles.Handles.{Handle}
-use Rattle.lane_work.specs.declared.work.Work.{Work}
-use Rattle.tally_sums.specs.Sums.{Tallies, counted_in}
+use Rattle.cell_records.specs.cell_law.declared.view.View.{View}
+use Rattle.cell_records.specs.cell_law.directory_law.Views.{In}
+use Rattle.cell_records.specs.cell_law.directory_law.declared.view.Rope.{Rope}
+use Rattle.cell_records.specs.cell_law.plain_state.Lists.{times}
+use Rattle.cell_records.specs.cell_law.plain_state.declared.slot.SlotId.{SlotId}
+use Rattle.cell_records.specs.cell_rest.Kept.{TellsFiles}
+use Rattle.cell_records.specs.epoch_refs.epoch_domain.Seats.{SeatState}
+use Rattle.cell_records.specs.lane_work.Keeping.{slots_of}
+use Rattle.cell_records.specs.lane_work.Sizes.{texts_in}
+use Rattle.cell_records.specs.lane_work.counted_handles.Handles.{Handle}
+use Rattle.cell_records.specs.lane_work.declared.work.Work.{Work}
+use Rattle.cell_records.specs.tally_sums.Sums.{Tallies, counted_in}
 
 -- The seat owns just the references that some lanes kept, and its view tells of them the words of all files of which
 -- lanes keep records. It has put no head into a cell itself, and each that it lists has the text of a word of the work.

@@ -6,24 +6,22 @@ ghost use Rattle.cell_gathering.specs.Ran.{EachRan};
 ghost use Rattle.cell_gathering.specs.cdrc_text.Fold.{File};
 ghost use Rattle.cell_gathering.specs.cdrc_text.Text.{IsReport};
 ghost use Rattle.cell_records.specs.Root.{IsRoot};
-ghost use Rattle.cell_rest.specs.plain_audit.deleter.Weighing.{Weighs};
-ghost use Rattle.directory_law.specs.Bytes.{AreBytes, IsPiece, piece_weight};
-ghost use Rattle.lane_work.specs.Sizes.{IsWithinLimits, texts_in};
-ghost use Rattle.lane_work.specs.Work.{IsWork};
+ghost use Rattle.cell_records.specs.cell_rest.plain_audit.deleter.Weighing.{Weighs};
+ghost use Rattle.cell_records.specs.directory_law.Bytes.{AreBytes, IsPiece, piece_weight};
+ghost use Rattle.cell_records.specs.lane_work.Sizes.{IsWithinLimits, texts_in};
+ghost use Rattle.cell_records.specs.lane_work.Work.{IsWork};
 ghost use Rattle.cell_reports.specs.Counted.{HasCounted};
 ghost use Rattle.cell_reports.specs.Last.{IsLastRoot, KnowsNoneLive, ListsWords};
 
 use cell_domain::{CellLaw, EpochDomain, EpochSeat, OutOfMemory, Strong, Work};
 use cell_gathering::{Done, Gathered, Tally, gather, words_are_bytes};
 use cell_records::{
-    Deleter, RecordKind, audit_at_rest, audit_line, clear_cells, count_rows, find_records,
-    give_all, learn_lives, list_ranks,
+    Deleter, RecordKind, Totals, audit_at_rest, audit_line, clear_cells, count_pieces, count_rows,
+    find_records, give_all, learn_lives, list_ranks, report,
 };
-use lane_work::count_pieces;
 use std::alloc::Global;
 use std::sync::Wait;
 use std::thread::Threads;
-use tally_sums::{Totals, report};
 
 /// The report of the files: a row for each word, and the closing lines. The cells are cleared, and what is kept is
 /// given up.

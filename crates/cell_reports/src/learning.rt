@@ -3,7 +3,7 @@ ghost use Rattle.cell_domain.specs.cell_lanes.Ready.{IsReady};
 ghost use Rattle.cell_reports.specs.Parting.{LearnsHeads};
 
 use cell_domain::{CellLaw, EpochDomain, EpochSeat};
-use epoch_refs::{Place, e_look, enter, exit};
+use cell_records::{Place, e_look, enter, exit};
 use law_lesson::LearnLaw;
 
 /// Learns, by a look at cell 0 in a region of its own, that the heads that the seat put into cells have different

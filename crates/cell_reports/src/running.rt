@@ -4,8 +4,8 @@ ghost use Rattle.cell_domain.specs.lane_work.Sizes.{IsWithinLimits, most_lanes, 
 ghost use Rattle.cell_domain.specs.lane_work.Work.{IsWork};
 ghost use Rattle.cell_domain.specs.lane_work.plain_state.Limits.{most_slots};
 ghost use Rattle.cell_gathering.specs.cdrc_text.Text.{IsReport};
-ghost use Rattle.cell_rest.specs.plain_audit.deleter.Weighing.{Weighs};
-ghost use Rattle.directory_law.specs.Bytes.{IsPiece, piece_weight};
+ghost use Rattle.cell_records.specs.cell_rest.plain_audit.deleter.Weighing.{Weighs};
+ghost use Rattle.cell_records.specs.directory_law.Bytes.{IsPiece, piece_weight};
 ghost use Rattle.cell_reports.specs.Last.{IsLastRoot};
 ghost use Rattle.cell_reports.specs.Refusals.{IsWhyNothing};
 

@@ -3,3 +3,4 @@ pub mod Joining
 pub mod Settled
 pub mod KeptWords
 pub mod Left
+pub mod Below

@@ -25,7 +25,7 @@ pub use kept::{
     kept_references_count_files, one_word_one_slot, told_lives_are_now,
     words_of_kept_are_those_of_files,
 };
-pub use plain_audit::Deleter;
+pub use plain_audit::{Audit, Deleter, Heap, audit};
 pub use records::{audits_find_records, nothing_is_left, records_are_left};
 pub use rest::states_at_rest_are_settled;
 pub use telling::views_go_on_to_tell;

@@ -3,27 +3,27 @@
 use Rattle.std.proofs.Common.{◌≡◌, ℕ, ◌<◌, List, [], set, refl, ap, sym, ◌∙◌, arith}
 use Rattle.std.specs.Prelude.{Option, Some, None}
 use Rattle.std.proofs.lemmas.List.{get_or-set_same, set-get_or, set-set}
-use Rattle.epoch_core.specs.core_events.Words.{slot_in}
-use Rattle.epoch_core.specs.plain_state.declared.act.EventPlace.{EventPlace}
-use Rattle.epoch_core.specs.plain_state.declared.slot.SlotId.{SlotId}
-use Rattle.epoch_core.specs.declared.act.EpochAct.{EpochAct}
-use Rattle.epoch_core.specs.declared.act.EpochAct.TheVariants as act
-use Rattle.epoch_core.specs.declared.outcome.EpochOutcome.{EpochOutcome}
-use Rattle.epoch_core.specs.declared.outcome.EpochOutcome.TheVariants as outcome
-use Rattle.epoch_core.specs.declared.shape.EpochShape.{EpochShape}
-use Rattle.epoch_core.specs.declared.view.EpochMove.{EpochMove}
-use Rattle.epoch_core.specs.declared.view.EpochView.{EpochView}
-use Rattle.epoch_core.specs.Counts.{filling}
-use Rattle.epoch_core.specs.Runs.{Core, Enabled, after, found, view_at}
-use Rattle.epoch_core.specs.Shows.{show_seat, shows}
-use Rattle.epoch_core.specs.Sound.{Sound}
-use Rattle.epoch_core.specs.Steps.{moved, noted, saw}
-use Rattle.epoch_core.specs.Views.{no_view}
-use Rattle.epoch_core.specs.Words.{place_at, region_at}
-use Rattle.epoch_core.proofs.Keeps.{step_keeps}
-use Rattle.epoch_core.proofs.Put.{at_seat, stepped}
-use Rattle.epoch_core.proofs.ShownFrames.{same_view}
-use Rattle.epoch_core.proofs.ShownQuiet.{low_shown}
+use Rattle.epoch_settling.specs.epoch_core.core_events.Words.{slot_in}
+use Rattle.epoch_settling.specs.epoch_core.plain_state.declared.act.EventPlace.{EventPlace}
+use Rattle.epoch_settling.specs.epoch_core.plain_state.declared.slot.SlotId.{SlotId}
+use Rattle.epoch_settling.specs.epoch_core.declared.act.EpochAct.{EpochAct}
+use Rattle.epoch_settling.specs.epoch_core.declared.act.EpochAct.TheVariants as act
+use Rattle.epoch_settling.specs.epoch_core.declared.outcome.EpochOutcome.{EpochOutcome}
+use Rattle.epoch_settling.specs.epoch_core.declared.outcome.EpochOutcome.TheVariants as outcome
+use Rattle.epoch_settling.specs.epoch_core.declared.shape.EpochShape.{EpochShape}
+use Rattle.epoch_settling.specs.epoch_core.declared.view.EpochMove.{EpochMove}
+use Rattle.epoch_settling.specs.epoch_core.declared.view.EpochView.{EpochView}
+use Rattle.epoch_settling.specs.epoch_core.Counts.{filling}
+use Rattle.epoch_settling.specs.epoch_core.Runs.{Core, Enabled, after, found, view_at}
+use Rattle.epoch_settling.specs.epoch_core.Shows.{show_seat, shows}
+use Rattle.epoch_settling.specs.epoch_core.Sound.{Sound}
+use Rattle.epoch_settling.specs.epoch_core.Steps.{moved, noted, saw}
+use Rattle.epoch_settling.specs.epoch_core.Views.{no_view}
+use Rattle.epoch_settling.specs.epoch_core.Words.{place_at, region_at}
+use Rattle.epoch_settling.proofs.Below.epoch_core_Keeps.{step_keeps}
+use Rattle.epoch_settling.proofs.Below.epoch_core_Put.{at_seat, stepped}
+use Rattle.epoch_settling.proofs.Below.epoch_core_ShownFrames.{same_view}
+use Rattle.epoch_settling.proofs.Below.epoch_core_ShownQuiet.{low_shown}
 
 -- WHAT THE VIEW IS AFTERWARDS
 -- a view but for its region and its trail

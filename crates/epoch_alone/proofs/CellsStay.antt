@@ -3,18 +3,18 @@ use Rattle.std.proofs.Common.{◌≡◌, ◌≢◌, ℕ, zero, suc, ◌+◌, ◌
 use Rattle.std.specs.Prelude.{Option, Some, None, slice_index, Result, Ok, Err, OnOk, IfOk}
 use Rattle.std.proofs.lemmas.List.{get_or-set_other, set-get_or}
 use Rattle.core_law.proofs.Lists.{each_same}
-use Rattle.epoch_core.specs.core_events.Words.{each_from, slot_in}
-use Rattle.epoch_core.specs.plain_state.declared.slot.SlotId.{SlotId}
-use Rattle.epoch_core.specs.declared.act.Dated.{Dated}
-use Rattle.epoch_core.specs.declared.act.EpochAct.{EpochAct}
-use Rattle.epoch_core.specs.declared.act.EpochAct.TheVariants as act
-use Rattle.epoch_core.specs.declared.outcome.EpochOutcome.{EpochOutcome}
-use Rattle.epoch_core.specs.declared.outcome.EpochOutcome.TheVariants as outcome
-use Rattle.epoch_core.specs.declared.shape.EpochShape.{EpochShape}
-use Rattle.epoch_core.specs.Runs.{Core, after, view_at}
-use Rattle.epoch_core.specs.Shows.{shows}
-use Rattle.epoch_core.specs.Steps.{scanned_at}
-use Rattle.epoch_core.specs.Words.{cell_at, epoch_at}
+use Rattle.epoch_settling.specs.epoch_core.core_events.Words.{each_from, slot_in}
+use Rattle.epoch_settling.specs.epoch_core.plain_state.declared.slot.SlotId.{SlotId}
+use Rattle.epoch_settling.specs.epoch_core.declared.act.Dated.{Dated}
+use Rattle.epoch_settling.specs.epoch_core.declared.act.EpochAct.{EpochAct}
+use Rattle.epoch_settling.specs.epoch_core.declared.act.EpochAct.TheVariants as act
+use Rattle.epoch_settling.specs.epoch_core.declared.outcome.EpochOutcome.{EpochOutcome}
+use Rattle.epoch_settling.specs.epoch_core.declared.outcome.EpochOutcome.TheVariants as outcome
+use Rattle.epoch_settling.specs.epoch_core.declared.shape.EpochShape.{EpochShape}
+use Rattle.epoch_settling.specs.epoch_core.Runs.{Core, after, view_at}
+use Rattle.epoch_settling.specs.epoch_core.Shows.{shows}
+use Rattle.epoch_settling.specs.epoch_core.Steps.{scanned_at}
+use Rattle.epoch_settling.specs.epoch_core.Words.{cell_at, epoch_at}
 use Rattle.epoch_refs.specs.declared.flushing.EpochWork.{EpochWork}
 use Rattle.epoch_refs.specs.Exchanges.{Dates}
 use Rattle.epoch_refs.specs.Flushing.{Clears, DestroysEach, Flushes, scans, tries}

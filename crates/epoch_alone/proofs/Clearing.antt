@@ -2,21 +2,21 @@
 use Rattle.std.proofs.Common.{◌≡◌, ℕ, ◌<◌, List, length, set, refl, ap, sym, ◌∙◌, subst, arith}
 use Rattle.std.specs.Prelude.{Option, Some, None, IsSome, slice_index_or}
 use Rattle.std.proofs.lemmas.List.{get_or-set_other, get_or-set_same, length-set}
-use Rattle.epoch_core.specs.core_events.Words.{slot_in}
-use Rattle.epoch_core.specs.plain_state.State.{Plain}
-use Rattle.epoch_core.specs.plain_state.declared.act.EventPlace.TheVariants.{Cell}
-use Rattle.epoch_core.specs.plain_state.declared.act.PlainAct.{PlainAct}
-use Rattle.epoch_core.specs.plain_state.declared.slot.SlotId.{SlotId}
-use Rattle.epoch_core.specs.declared.act.EpochAct.TheVariants as act
-use Rattle.epoch_core.specs.declared.outcome.EpochOutcome.{EpochOutcome}
-use Rattle.epoch_core.specs.declared.outcome.EpochOutcome.TheVariants as outcome
-use Rattle.epoch_core.specs.declared.shape.EpochShape.{EpochShape}
-use Rattle.epoch_core.specs.declared.view.EpochPhase.TheVariants as phase
-use Rattle.epoch_core.specs.declared.view.EpochView.{EpochView}
-use Rattle.epoch_core.specs.Runs.{Core, after}
-use Rattle.epoch_core.specs.Shows.{shows}
-use Rattle.epoch_core.specs.Steps.{moved, noted, took}
-use Rattle.epoch_core.proofs.ShownExchanges.{swap_shows}
+use Rattle.epoch_settling.specs.epoch_core.core_events.Words.{slot_in}
+use Rattle.epoch_settling.specs.epoch_core.plain_state.State.{Plain}
+use Rattle.epoch_settling.specs.epoch_core.plain_state.declared.act.EventPlace.TheVariants.{Cell}
+use Rattle.epoch_settling.specs.epoch_core.plain_state.declared.act.PlainAct.{PlainAct}
+use Rattle.epoch_settling.specs.epoch_core.plain_state.declared.slot.SlotId.{SlotId}
+use Rattle.epoch_settling.specs.epoch_core.declared.act.EpochAct.TheVariants as act
+use Rattle.epoch_settling.specs.epoch_core.declared.outcome.EpochOutcome.{EpochOutcome}
+use Rattle.epoch_settling.specs.epoch_core.declared.outcome.EpochOutcome.TheVariants as outcome
+use Rattle.epoch_settling.specs.epoch_core.declared.shape.EpochShape.{EpochShape}
+use Rattle.epoch_settling.specs.epoch_core.declared.view.EpochPhase.TheVariants as phase
+use Rattle.epoch_settling.specs.epoch_core.declared.view.EpochView.{EpochView}
+use Rattle.epoch_settling.specs.epoch_core.Runs.{Core, after}
+use Rattle.epoch_settling.specs.epoch_core.Shows.{shows}
+use Rattle.epoch_settling.specs.epoch_core.Steps.{moved, noted, took}
+use Rattle.epoch_settling.proofs.Below.epoch_core_ShownExchanges.{swap_shows}
 use Rattle.epoch_refs.specs.plain_protocol.Owns.{OwnPart}
 use Rattle.epoch_refs.specs.Exchanges.{Dates, IsStored}
 use Rattle.epoch_refs.specs.epoch_domain.Domains.{DomainState}

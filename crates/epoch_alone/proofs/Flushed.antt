@@ -1,6 +1,6 @@
 -- A seat that has what flushes leave it is alone and free still.
 use Rattle.std.proofs.Common.{ap, ◌∙◌}
-use Rattle.epoch_core.specs.declared.view.EpochView.{EpochView}
+use Rattle.epoch_settling.specs.epoch_core.declared.view.EpochView.{EpochView}
 use Rattle.epoch_refs.specs.Flushing.{IsFlushing}
 use Rattle.epoch_refs.specs.Walks.{IsAtRest, IsFree}
 use Rattle.epoch_refs.specs.epoch_domain.Domains.{DomainState}

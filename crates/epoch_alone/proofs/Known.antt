@@ -1,23 +1,23 @@
 -- What a seat that is alone knows of the whole state before and after each event, whatever its deed.
 use Rattle.std.proofs.Common.{◌≡◌, ℕ, List, length, refl, ap, sym, ◌∙◌, subst, arith}
 use Rattle.std.specs.Prelude.{Option, Some, None, IsSome, true, option_map}
-use Rattle.epoch_core.specs.plain_state.State.{Plain, slot_at}
-use Rattle.epoch_core.specs.plain_state.Fits.{AllFit}
-use Rattle.epoch_core.specs.plain_state.declared.act.PlainAct.{PlainAct}
-use Rattle.epoch_core.specs.plain_state.declared.slot.SlotId.{SlotId}
-use Rattle.epoch_core.specs.declared.act.EpochAct.{EpochAct}
-use Rattle.epoch_core.specs.declared.act.EpochAct.TheVariants as act
-use Rattle.epoch_core.specs.declared.outcome.EpochOutcome.{EpochOutcome}
-use Rattle.epoch_core.specs.declared.shape.EpochShape.{EpochShape}
-use Rattle.epoch_core.specs.declared.view.EpochView.{EpochView}
-use Rattle.epoch_core.specs.Alone.{IsOnly}
-use Rattle.epoch_core.specs.Runs.{Core, Enabled, after, found, view_at}
-use Rattle.epoch_core.specs.Shows.{show_seat, shows}
-use Rattle.epoch_core.specs.Sound.{Sound}
-use Rattle.epoch_core.proofs.Keeps.{history_sound, step_keeps}
-use Rattle.epoch_core.proofs.Lawful.{shows_lawful}
-use Rattle.epoch_rule.proofs.Reading.{known_is}
-use Rattle.epoch_rule.proofs.Views.{other_after}
+use Rattle.epoch_settling.specs.epoch_core.plain_state.State.{Plain, slot_at}
+use Rattle.epoch_settling.specs.epoch_core.plain_state.Fits.{AllFit}
+use Rattle.epoch_settling.specs.epoch_core.plain_state.declared.act.PlainAct.{PlainAct}
+use Rattle.epoch_settling.specs.epoch_core.plain_state.declared.slot.SlotId.{SlotId}
+use Rattle.epoch_settling.specs.epoch_core.declared.act.EpochAct.{EpochAct}
+use Rattle.epoch_settling.specs.epoch_core.declared.act.EpochAct.TheVariants as act
+use Rattle.epoch_settling.specs.epoch_core.declared.outcome.EpochOutcome.{EpochOutcome}
+use Rattle.epoch_settling.specs.epoch_core.declared.shape.EpochShape.{EpochShape}
+use Rattle.epoch_settling.specs.epoch_core.declared.view.EpochView.{EpochView}
+use Rattle.epoch_settling.specs.epoch_core.Alone.{IsOnly}
+use Rattle.epoch_settling.specs.epoch_core.Runs.{Core, Enabled, after, found, view_at}
+use Rattle.epoch_settling.specs.epoch_core.Shows.{show_seat, shows}
+use Rattle.epoch_settling.specs.epoch_core.Sound.{Sound}
+use Rattle.epoch_settling.proofs.Below.epoch_core_Keeps.{history_sound, step_keeps}
+use Rattle.epoch_settling.proofs.Below.epoch_core_Lawful.{shows_lawful}
+use Rattle.epoch_settling.proofs.Below.epoch_rule_Reading.{known_is}
+use Rattle.epoch_settling.proofs.Below.epoch_rule_Views.{other_after}
 use Rattle.epoch_refs.specs.plain_protocol.Owns.{HasSlot, OwnPart, object_of}
 use Rattle.epoch_refs.specs.epoch_domain.Calls.{Steps}
 use Rattle.epoch_refs.specs.epoch_domain.Domains.{DomainState}

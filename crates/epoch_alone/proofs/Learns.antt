@@ -2,20 +2,20 @@
 -- then, of a state that is as it was, and has and knows what it had and knew.
 use Rattle.std.proofs.Common.{◌≡◌, ℕ, ◌<◌, List, [], refl, ap, sym, ◌∙◌, subst, arith}
 use Rattle.std.specs.Prelude.{Option, Some, None}
-use Rattle.epoch_core.specs.core_events.Words.{slot_in}
-use Rattle.epoch_core.specs.plain_state.State.{Plain}
-use Rattle.epoch_core.specs.plain_state.declared.act.EventPlace.{EventPlace}
-use Rattle.epoch_core.specs.plain_state.declared.act.PlainAct.{PlainAct}
-use Rattle.epoch_core.specs.plain_state.declared.slot.SlotId.{SlotId}
-use Rattle.epoch_core.specs.declared.act.EpochAct.TheVariants as act
-use Rattle.epoch_core.specs.declared.outcome.EpochOutcome.{EpochOutcome}
-use Rattle.epoch_core.specs.declared.outcome.EpochOutcome.TheVariants as outcome
-use Rattle.epoch_core.specs.declared.shape.EpochShape.{EpochShape}
-use Rattle.epoch_core.specs.declared.view.EpochView.{EpochView}
-use Rattle.epoch_core.specs.Runs.{Core, after, view_at}
-use Rattle.epoch_core.specs.Shows.{show_seat, shows}
-use Rattle.epoch_core.specs.Steps.{saw}
-use Rattle.epoch_core.proofs.ShownRegions.{enter_shown, open_shown}
+use Rattle.epoch_settling.specs.epoch_core.core_events.Words.{slot_in}
+use Rattle.epoch_settling.specs.epoch_core.plain_state.State.{Plain}
+use Rattle.epoch_settling.specs.epoch_core.plain_state.declared.act.EventPlace.{EventPlace}
+use Rattle.epoch_settling.specs.epoch_core.plain_state.declared.act.PlainAct.{PlainAct}
+use Rattle.epoch_settling.specs.epoch_core.plain_state.declared.slot.SlotId.{SlotId}
+use Rattle.epoch_settling.specs.epoch_core.declared.act.EpochAct.TheVariants as act
+use Rattle.epoch_settling.specs.epoch_core.declared.outcome.EpochOutcome.{EpochOutcome}
+use Rattle.epoch_settling.specs.epoch_core.declared.outcome.EpochOutcome.TheVariants as outcome
+use Rattle.epoch_settling.specs.epoch_core.declared.shape.EpochShape.{EpochShape}
+use Rattle.epoch_settling.specs.epoch_core.declared.view.EpochView.{EpochView}
+use Rattle.epoch_settling.specs.epoch_core.Runs.{Core, after, view_at}
+use Rattle.epoch_settling.specs.epoch_core.Shows.{show_seat, shows}
+use Rattle.epoch_settling.specs.epoch_core.Steps.{saw}
+use Rattle.epoch_settling.proofs.Below.epoch_core_ShownRegions.{enter_shown, open_shown}
 use Rattle.law_lesson.specs.Lessons.{HoldsOf}
 use Rattle.epoch_refs.specs.plain_protocol.Owns.{OwnPart}
 use Rattle.epoch_refs.specs.Calls.{Enters}

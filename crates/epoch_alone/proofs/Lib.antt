@@ -6,3 +6,4 @@ pub mod CellsStay
 pub mod Flushed
 pub mod Settled
 pub mod Clearing
+pub mod Below

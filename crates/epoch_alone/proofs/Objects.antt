@@ -3,19 +3,19 @@ use Rattle.std.proofs.Common.{◌≡◌, ⊎_elim, ℕ, ◌+◌, ◌<◌, Bool, 
 use Rattle.std.specs.Prelude.{Some, None, if◌then◌else◌}
 use Rattle.std.proofs.lemmas.Bool.Decides.{nat_tests}
 use Rattle.core_law.proofs.Kit.{times_none}
-use Rattle.epoch_core.specs.plain_state.State.{Plain, PlainSeat}
-use Rattle.epoch_core.specs.plain_state.declared.act.PlainAct.{PlainAct}
-use Rattle.epoch_core.specs.plain_state.declared.slot.SlotId.{SlotId}
-use Rattle.epoch_core.specs.plain_state.Lists.{times}
-use Rattle.epoch_core.specs.declared.act.EpochAct.{EpochAct}
-use Rattle.epoch_core.specs.declared.outcome.EpochOutcome.{EpochOutcome}
-use Rattle.epoch_core.specs.declared.shape.EpochShape.{EpochShape}
-use Rattle.epoch_core.specs.declared.view.EpochPhase.TheVariants as phase
-use Rattle.epoch_core.specs.declared.view.EpochView.{EpochView}
-use Rattle.epoch_core.specs.Counts.{filling}
-use Rattle.epoch_core.specs.Shows.{show_seat}
-use Rattle.epoch_core.specs.Steps.{changed}
-use Rattle.epoch_rule.proofs.Others.{has_how, held_counts}
+use Rattle.epoch_settling.specs.epoch_core.plain_state.State.{Plain, PlainSeat}
+use Rattle.epoch_settling.specs.epoch_core.plain_state.declared.act.PlainAct.{PlainAct}
+use Rattle.epoch_settling.specs.epoch_core.plain_state.declared.slot.SlotId.{SlotId}
+use Rattle.epoch_settling.specs.epoch_core.plain_state.Lists.{times}
+use Rattle.epoch_settling.specs.epoch_core.declared.act.EpochAct.{EpochAct}
+use Rattle.epoch_settling.specs.epoch_core.declared.outcome.EpochOutcome.{EpochOutcome}
+use Rattle.epoch_settling.specs.epoch_core.declared.shape.EpochShape.{EpochShape}
+use Rattle.epoch_settling.specs.epoch_core.declared.view.EpochPhase.TheVariants as phase
+use Rattle.epoch_settling.specs.epoch_core.declared.view.EpochView.{EpochView}
+use Rattle.epoch_settling.specs.epoch_core.Counts.{filling}
+use Rattle.epoch_settling.specs.epoch_core.Shows.{show_seat}
+use Rattle.epoch_settling.specs.epoch_core.Steps.{changed}
+use Rattle.epoch_settling.proofs.Below.epoch_rule_Others.{has_how, held_counts}
 use Rattle.epoch_refs.specs.epoch_rule.domain_rule.Told.{changed_object}
 use Rattle.epoch_refs.specs.plain_protocol.Owns.{HasSlot, Object, OwnPart, has_slot}
 use Rattle.epoch_refs.specs.epoch_domain.Calls.{Steps}

@@ -5,34 +5,34 @@ use Rattle.std.specs.List.{list_all}
 use Rattle.std.proofs.lemmas.Bool.{cases_eq, cases_lt}
 use Rattle.std.proofs.lemmas.List.{get_or_past, length-map}
 use Rattle.core_law.proofs.Kit.{entry_none, times_none}
-use Rattle.epoch_core.specs.plain_state.counter_word.Words.{ZERO}
-use Rattle.epoch_core.specs.plain_state.declared.image.Heap.{Heap}
-use Rattle.epoch_core.specs.plain_state.declared.image.SlotImage.{SlotImage}
-use Rattle.epoch_core.specs.plain_state.declared.slot.Kind.{Kind}
-use Rattle.epoch_core.specs.plain_state.declared.slot.Kind.TheVariants.{Strong}
-use Rattle.epoch_core.specs.plain_state.declared.slot.PlainSlot.{PlainSlot}
-use Rattle.epoch_core.specs.plain_state.declared.slot.SlotId.{SlotId}
-use Rattle.epoch_core.specs.plain_state.declared.slot.Stage.{Stage}
-use Rattle.epoch_core.specs.plain_state.declared.slot.Stage.TheVariants.{Free, Live}
-use Rattle.epoch_core.specs.plain_state.Images.{IsImage, slot_image}
-use Rattle.epoch_core.specs.plain_state.Lawful.{Lawful}
-use Rattle.epoch_core.specs.plain_state.Lists.{entry_times, times}
-use Rattle.epoch_core.specs.plain_state.References.{deferrals, strong_refs}
-use Rattle.epoch_core.specs.plain_state.State.{Plain, PlainSeat, new_seat, new_slot, seat_at, stage_at}
-use Rattle.epoch_core.specs.declared.act.Dated.{Dated}
-use Rattle.epoch_core.specs.declared.shape.EpochShape.{EpochShape}
-use Rattle.epoch_core.specs.declared.view.EpochPhase.TheVariants as phase
-use Rattle.epoch_core.specs.declared.view.EpochView.{EpochView}
-use Rattle.epoch_core.specs.Alone.{IsOnly}
-use Rattle.epoch_core.specs.Counts.{count, dying_times, fillers, filling}
-use Rattle.epoch_core.specs.Good.{stage_of}
-use Rattle.epoch_core.specs.Runs.{Core, view_at}
-use Rattle.epoch_core.specs.Shows.{filled, show_seat, shows, undated_entry}
-use Rattle.epoch_core.specs.Sound.{SeatLaw, Sound}
-use Rattle.epoch_core.specs.Steps.{CanLeave}
-use Rattle.epoch_core.specs.Views.{no_view}
-use Rattle.epoch_core.proofs.Bridge.{seats_sum, shown_past, shown_seat, shown_stage, shown_strong}
-use Rattle.epoch_core.proofs.Parts.{sound_good, total_zero}
+use Rattle.epoch_settling.specs.epoch_core.plain_state.counter_word.Words.{ZERO}
+use Rattle.epoch_settling.specs.epoch_core.plain_state.declared.image.Heap.{Heap}
+use Rattle.epoch_settling.specs.epoch_core.plain_state.declared.image.SlotImage.{SlotImage}
+use Rattle.epoch_settling.specs.epoch_core.plain_state.declared.slot.Kind.{Kind}
+use Rattle.epoch_settling.specs.epoch_core.plain_state.declared.slot.Kind.TheVariants.{Strong}
+use Rattle.epoch_settling.specs.epoch_core.plain_state.declared.slot.PlainSlot.{PlainSlot}
+use Rattle.epoch_settling.specs.epoch_core.plain_state.declared.slot.SlotId.{SlotId}
+use Rattle.epoch_settling.specs.epoch_core.plain_state.declared.slot.Stage.{Stage}
+use Rattle.epoch_settling.specs.epoch_core.plain_state.declared.slot.Stage.TheVariants.{Free, Live}
+use Rattle.epoch_settling.specs.epoch_core.plain_state.Images.{IsImage, slot_image}
+use Rattle.epoch_settling.specs.epoch_core.plain_state.Lawful.{Lawful}
+use Rattle.epoch_settling.specs.epoch_core.plain_state.Lists.{entry_times, times}
+use Rattle.epoch_settling.specs.epoch_core.plain_state.References.{deferrals, strong_refs}
+use Rattle.epoch_settling.specs.epoch_core.plain_state.State.{Plain, PlainSeat, new_seat, new_slot, seat_at, stage_at}
+use Rattle.epoch_settling.specs.epoch_core.declared.act.Dated.{Dated}
+use Rattle.epoch_settling.specs.epoch_core.declared.shape.EpochShape.{EpochShape}
+use Rattle.epoch_settling.specs.epoch_core.declared.view.EpochPhase.TheVariants as phase
+use Rattle.epoch_settling.specs.epoch_core.declared.view.EpochView.{EpochView}
+use Rattle.epoch_settling.specs.epoch_core.Alone.{IsOnly}
+use Rattle.epoch_settling.specs.epoch_core.Counts.{count, dying_times, fillers, filling}
+use Rattle.epoch_settling.specs.epoch_core.Good.{stage_of}
+use Rattle.epoch_settling.specs.epoch_core.Runs.{Core, view_at}
+use Rattle.epoch_settling.specs.epoch_core.Shows.{filled, show_seat, shows, undated_entry}
+use Rattle.epoch_settling.specs.epoch_core.Sound.{SeatLaw, Sound}
+use Rattle.epoch_settling.specs.epoch_core.Steps.{CanLeave}
+use Rattle.epoch_settling.specs.epoch_core.Views.{no_view}
+use Rattle.epoch_settling.proofs.Below.epoch_core_Bridge.{seats_sum, shown_past, shown_seat, shown_stage, shown_strong}
+use Rattle.epoch_settling.proofs.Below.epoch_core_Parts.{sound_good, total_zero}
 use Rattle.epoch_refs.specs.epoch_domain.Domains.{DomainState}
 use Rattle.epoch_refs.specs.epoch_domain.Wholes.{IsWholeImage}
 use Rattle.epoch_refs.specs.epoch_rule.declared.view.EpochSeatView.{EpochSeatView}

@@ -3,3 +3,4 @@ pub mod Alone
 pub mod Resting
 pub mod Paying
 pub mod Staying
+pub mod Below

@@ -13,3 +13,4 @@ pub mod Owning
 pub mod Glued
 pub mod Sides
 pub mod Published
+pub mod Below

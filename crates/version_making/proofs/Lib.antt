@@ -19,3 +19,4 @@ pub mod Lifted
 pub mod Leaned
 pub mod Joined
 pub mod Rooted
+pub mod Below

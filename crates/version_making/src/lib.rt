@@ -35,3 +35,9 @@ pub use joining::join;
 pub use opening::{Opened, open_node};
 pub use rooting::load_root;
 pub use taking_apart::take_apart;
+
+// What its callers take with it.
+pub use atomic_shared::LoadError;
+pub use map_protocol::MapLaw;
+pub use protected_loads::{SlotId, Spent, copy_strong, held_as};
+pub use slot_store::{Domain, MakeError, Seat, Strong};

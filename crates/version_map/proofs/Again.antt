@@ -1,14 +1,14 @@
 -- Tries that leave the seat as it was, but for its trail and what it has learnt.
 use Rattle.std.proofs.Common.{ℕ, [], sym, ◌∙◌, subst}
 use Rattle.std.proofs.lemmas.List.{append-nil}
-use Rattle.protected_loads.specs.plain_state.State.{Plain}
-use Rattle.protected_loads.specs.plain_protocol.Owns.{HasSlot}
-use Rattle.protected_loads.specs.core_events.declared.view.CoreView.{CoreView}
-use Rattle.protected_loads.specs.core_events.Shows.{show_seat}
-use Rattle.protected_loads.specs.acquire_retire.Domains.{DomainState}
-use Rattle.protected_loads.specs.acquire_retire.Seats.{SeatState}
-use Rattle.protected_loads.specs.control_word.Moves.{KnowsStill}
-use Rattle.protected_loads.specs.control_word.Resting.{IsAtRest}
+use Rattle.version_making.specs.protected_loads.plain_state.State.{Plain}
+use Rattle.version_making.specs.protected_loads.plain_protocol.Owns.{HasSlot}
+use Rattle.version_making.specs.protected_loads.core_events.declared.view.CoreView.{CoreView}
+use Rattle.version_making.specs.protected_loads.core_events.Shows.{show_seat}
+use Rattle.version_making.specs.protected_loads.acquire_retire.Domains.{DomainState}
+use Rattle.version_making.specs.protected_loads.acquire_retire.Seats.{SeatState}
+use Rattle.version_making.specs.protected_loads.control_word.Moves.{KnowsStill}
+use Rattle.version_making.specs.protected_loads.control_word.Resting.{IsAtRest}
 use Rattle.version_reading.specs.map_law.declared.view.View.{View}
 use Rattle.version_reading.specs.map_protocol.declared.law.MapLaw.{MapLaw}
 use Rattle.version_reading.specs.Reading.{AtALook, Reads}

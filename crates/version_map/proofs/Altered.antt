@@ -1,24 +1,24 @@
 -- A version that was altered: where it is published, where its key isn't there, and where too long a way was found.
 use Rattle.std.proofs.Common.{◌≡◌, ℕ, ◌<◌, ◌^◌, Bool, true, false, [], ◌∷◌, ◌++◌, refl, ap, sym, ◌∙◌, subst, arith}
 use Rattle.std.specs.Prelude.{Option, Some, None}
-use Rattle.map_law.specs.plain_state.declared.slot.SlotId.{SlotId}
-use Rattle.map_law.specs.plain_state.State.{Plain}
-use Rattle.map_trees.specs.declared.change.Change.{Change}
-use Rattle.map_trees.specs.declared.change.Change.TheVariants as change
-use Rattle.map_law.specs.declared.view.Kid.{Kid}
-use Rattle.map_law.specs.declared.view.View.{View}
-use Rattle.map_law.specs.Lessons.{IsMapOf, answer_next}
-use Rattle.map_law.specs.Patterns.{Pattern, Spells, branch, hole, null, filled}
-use Rattle.map_law.specs.Publishing.{entry_of, PublishTells, publish_next}
-use Rattle.map_law.proofs.Plans.{height_is}
-use Rattle.map_law.specs.plain_state.declared.act.EventPlace.TheVariants.{Cell}
-use Rattle.map_protocol.specs.declared.law.MapLaw.{MapLaw}
-use Rattle.slot_store.specs.core_events.declared.act.Act.TheVariants as act
-use Rattle.slot_store.specs.core_events.declared.outcome.Outcome.TheVariants as outcome
-use Rattle.slot_store.specs.acquire_retire.Domains.{DomainState}
-use Rattle.slot_store.specs.acquire_retire.Seats.{SeatState}
-use Rattle.slot_store.specs.counted_handles.Handles.{Handle}
-use Rattle.atomic_shared.specs.Places.{named}
+use Rattle.version_making.specs.map_law.plain_state.declared.slot.SlotId.{SlotId}
+use Rattle.version_making.specs.map_law.plain_state.State.{Plain}
+use Rattle.version_changes.specs.map_trees.declared.change.Change.{Change}
+use Rattle.version_changes.specs.map_trees.declared.change.Change.TheVariants as change
+use Rattle.version_making.specs.map_law.declared.view.Kid.{Kid}
+use Rattle.version_making.specs.map_law.declared.view.View.{View}
+use Rattle.version_making.specs.map_law.Lessons.{IsMapOf, answer_next}
+use Rattle.version_making.specs.map_law.Patterns.{Pattern, Spells, branch, hole, null, filled}
+use Rattle.version_making.specs.map_law.Publishing.{entry_of, PublishTells, publish_next}
+use Rattle.version_making.proofs.Below.map_law_Plans.{height_is}
+use Rattle.version_making.specs.map_law.plain_state.declared.act.EventPlace.TheVariants.{Cell}
+use Rattle.version_making.specs.map_protocol.declared.law.MapLaw.{MapLaw}
+use Rattle.version_making.specs.slot_store.core_events.declared.act.Act.TheVariants as act
+use Rattle.version_making.specs.slot_store.core_events.declared.outcome.Outcome.TheVariants as outcome
+use Rattle.version_making.specs.slot_store.acquire_retire.Domains.{DomainState}
+use Rattle.version_making.specs.slot_store.acquire_retire.Seats.{SeatState}
+use Rattle.version_making.specs.slot_store.counted_handles.Handles.{Handle}
+use Rattle.version_making.specs.atomic_shared.Places.{named}
 use Rattle.version_making.specs.Building.{height_by}
 use Rattle.version_making.specs.Keeping.{GoesOn, Grows}
 use Rattle.version_making.specs.Standing.{kid_by}

@@ -1,28 +1,28 @@
 -- The parts of an update, one after another: what the seat owns in between, and what the whole has done.
 use Rattle.std.proofs.Common.{◌≡◌, inl, inr, ℕ, ◌+◌, ◌*◌, ◌≤◌, ◌<◌, ◌^◌, refl, ap, sym, ◌∙◌, subst, arith}
 use Rattle.std.specs.Prelude.{Err, IfErr, IfOk, Ok, Option, Result}
-use Rattle.map_law.specs.plain_state.declared.act.EventPlace.TheVariants.{Cell}
-use Rattle.map_law.specs.plain_state.declared.slot.SlotId.{SlotId}
-use Rattle.map_law.specs.plain_state.Lists.{times}
-use Rattle.map_trees.specs.declared.change.Change.{Change}
-use Rattle.map_law.specs.declared.view.Kid.{Kid}
-use Rattle.map_law.specs.declared.view.View.{View}
-use Rattle.map_law.specs.plain_state.Steps.{word_of}
-use Rattle.map_law.specs.Nodes.{IsNode}
-use Rattle.map_law.specs.Lessons.{answer_next, see_next}
-use Rattle.map_law.specs.Patterns.{Pattern, Spells}
-use Rattle.map_protocol.specs.declared.law.MapLaw.{MapLaw}
-use Rattle.slot_store.specs.core_events.declared.act.Act.TheVariants as act
-use Rattle.slot_store.specs.core_events.declared.outcome.Outcome.TheVariants as outcome
-use Rattle.slot_store.specs.core_events.declared.view.CoreView.{CoreView}
-use Rattle.slot_store.specs.acquire_retire.Domains.{DomainState}
-use Rattle.slot_store.specs.acquire_retire.Seats.{SeatState}
-use Rattle.slot_store.specs.counted_handles.Handles.{Handle}
-use Rattle.slot_store.specs.control_word.Resting.{IsSpent}
-use Rattle.slot_store.specs.declared.making.MakeError.{MakeError}
-use Rattle.slot_store.specs.declared.making.MakeError.TheVariants as refused
-use Rattle.atomic_shared.specs.protected_loads.References.{Loads}
-use Rattle.atomic_shared.specs.Places.{named}
+use Rattle.version_making.specs.map_law.plain_state.declared.act.EventPlace.TheVariants.{Cell}
+use Rattle.version_making.specs.map_law.plain_state.declared.slot.SlotId.{SlotId}
+use Rattle.version_making.specs.map_law.plain_state.Lists.{times}
+use Rattle.version_changes.specs.map_trees.declared.change.Change.{Change}
+use Rattle.version_making.specs.map_law.declared.view.Kid.{Kid}
+use Rattle.version_making.specs.map_law.declared.view.View.{View}
+use Rattle.version_making.specs.map_law.plain_state.Steps.{word_of}
+use Rattle.version_making.specs.map_law.Nodes.{IsNode}
+use Rattle.version_making.specs.map_law.Lessons.{answer_next, see_next}
+use Rattle.version_making.specs.map_law.Patterns.{Pattern, Spells}
+use Rattle.version_making.specs.map_protocol.declared.law.MapLaw.{MapLaw}
+use Rattle.version_making.specs.slot_store.core_events.declared.act.Act.TheVariants as act
+use Rattle.version_making.specs.slot_store.core_events.declared.outcome.Outcome.TheVariants as outcome
+use Rattle.version_making.specs.slot_store.core_events.declared.view.CoreView.{CoreView}
+use Rattle.version_making.specs.slot_store.acquire_retire.Domains.{DomainState}
+use Rattle.version_making.specs.slot_store.acquire_retire.Seats.{SeatState}
+use Rattle.version_making.specs.slot_store.counted_handles.Handles.{Handle}
+use Rattle.version_making.specs.slot_store.control_word.Resting.{IsSpent}
+use Rattle.version_making.specs.slot_store.declared.making.MakeError.{MakeError}
+use Rattle.version_making.specs.slot_store.declared.making.MakeError.TheVariants as refused
+use Rattle.version_making.specs.atomic_shared.protected_loads.References.{Loads}
+use Rattle.version_making.specs.atomic_shared.Places.{named}
 use Rattle.version_making.specs.Building.{IsWhy, height_by}
 use Rattle.version_making.specs.Keeping.{Keeps, none, of_both, of_handle}
 use Rattle.version_making.specs.Standing.{IsTree, kid_by}

@@ -1,15 +1,15 @@
 -- A seat that plays may begin each call, and each call leaves it so.
 use Rattle.std.proofs.Common.{◌≡◌, ℕ, false, refl, ap, sym, ◌∙◌, subst, arith}
 use Rattle.std.specs.Prelude.{slice_index_or}
-use Rattle.map_law.specs.declared.view.View.{View}
-use Rattle.map_law.specs.Views.{first_view}
-use Rattle.slot_store.specs.core_events.declared.view.Note.TheVariants as stands
-use Rattle.slot_store.specs.core_events.declared.view.CoreView.{CoreView}
-use Rattle.slot_store.specs.core_events.Steps.{HasRoom}
-use Rattle.slot_store.specs.core_events.Views.{no_notes, note_of}
-use Rattle.slot_store.specs.acquire_retire.Domains.{DomainState}
-use Rattle.slot_store.specs.acquire_retire.Seats.{SeatState}
-use Rattle.slot_store.specs.control_word.Resting.{IsAtRest}
+use Rattle.version_making.specs.map_law.declared.view.View.{View}
+use Rattle.version_making.specs.map_law.Views.{first_view}
+use Rattle.version_making.specs.slot_store.core_events.declared.view.Note.TheVariants as stands
+use Rattle.version_making.specs.slot_store.core_events.declared.view.CoreView.{CoreView}
+use Rattle.version_making.specs.slot_store.core_events.Steps.{HasRoom}
+use Rattle.version_making.specs.slot_store.core_events.Views.{no_notes, note_of}
+use Rattle.version_making.specs.slot_store.acquire_retire.Domains.{DomainState}
+use Rattle.version_making.specs.slot_store.acquire_retire.Seats.{SeatState}
+use Rattle.version_making.specs.slot_store.control_word.Resting.{IsAtRest}
 use Rattle.version_reading.specs.Reading.{Reads}
 use Rattle.version_map.specs.Maps.{CanRead, HasTwoFree}
 use Rattle.version_map.specs.Playing.{Plays}

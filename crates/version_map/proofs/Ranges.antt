@@ -3,9 +3,9 @@ use Rattle.std.proofs.Common.{◌≡◌, ℕ, zero, suc, ◌+◌, ◌<◌, ◌�
 use Rattle.std.specs.Prelude.{Some, None, ◌||◌, if◌then◌else◌, nat_lt}
 use Rattle.std.proofs.lemmas.Bool.{false≢true}
 use Rattle.std.proofs.lemmas.Bool.Decides.{nat_tests}
-use Rattle.map_trees.specs.Trees.{AllAbove, Ascends, Pair, pair}
-use Rattle.map_trees.specs.Maps.{next}
-use Rattle.map_trees.proofs.Lists.{lt_false, lt_true}
+use Rattle.version_changes.specs.map_trees.Trees.{AllAbove, Ascends, Pair, pair}
+use Rattle.version_changes.specs.map_trees.Maps.{next}
+use Rattle.version_changes.proofs.Below.map_trees_Lists.{lt_false, lt_true}
 use Rattle.version_map.specs.Maps.{first_pairs, within}
 
 -- a pair outside the range, and one inside

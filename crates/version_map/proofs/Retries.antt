@@ -1,10 +1,10 @@
 -- Tries of an update in turn.
 use Rattle.std.proofs.Common.{◌≡◌, ◌⊎◌, false, inl, inr, ℕ, ◌+◌, ◌*◌, refl, ap, sym, ◌∙◌, subst, arith}
-use Rattle.map_law.specs.declared.view.View.{View}
-use Rattle.map_protocol.specs.declared.law.MapLaw.{MapLaw}
-use Rattle.slot_store.specs.core_events.declared.view.CoreView.{CoreView}
-use Rattle.slot_store.specs.acquire_retire.Domains.{DomainState}
-use Rattle.slot_store.specs.acquire_retire.Seats.{SeatState}
+use Rattle.version_making.specs.map_law.declared.view.View.{View}
+use Rattle.version_making.specs.map_protocol.declared.law.MapLaw.{MapLaw}
+use Rattle.version_making.specs.slot_store.core_events.declared.view.CoreView.{CoreView}
+use Rattle.version_making.specs.slot_store.acquire_retire.Domains.{DomainState}
+use Rattle.version_making.specs.slot_store.acquire_retire.Seats.{SeatState}
 use Rattle.version_making.specs.Keeping.{Grows, IsReadyFor, Keeps, none}
 use Rattle.version_making.proofs.Keeping.{goes_none, goes_then, keeps_none, keeps_then}
 use Rattle.version_updates.specs.Publishing.{but_for}

@@ -1,18 +1,18 @@
 -- How far a scan has come.
 use Rattle.std.proofs.Common.{◌≡◌, ℕ, ◌+◌, ◌<◌, ◌≤◌, List, [], ◌∷◌, ◌++◌, length, length-set, set, refl, ap, sym, ◌∙◌, subst, arith, append_assoc}
 use Rattle.std.specs.Prelude.{Option, Some, None}
-use Rattle.protected_loads.specs.plain_state.declared.slot.SlotId.{SlotId}
-use Rattle.protected_loads.specs.plain_protocol.Owns.{HasSlot, Object}
-use Rattle.protected_loads.specs.core_events.declared.view.CoreView.{CoreView}
-use Rattle.protected_loads.specs.core_events.declared.view.Note.TheVariants as stands
-use Rattle.protected_loads.specs.core_events.Shows.{show_seat}
-use Rattle.protected_loads.specs.core_events.Views.{note_of}
-use Rattle.protected_loads.specs.domain_rule.Views.{object_in}
-use Rattle.protected_loads.specs.acquire_retire.Domains.{DomainState}
-use Rattle.protected_loads.specs.acquire_retire.Seats.{SeatState}
-use Rattle.protected_loads.specs.control_word.Moves.{KnowsStill}
-use Rattle.map_trees.specs.Trees.{Pair, Shaped, Tree, pair, pairs}
-use Rattle.map_trees.specs.Maps.{next}
+use Rattle.version_making.specs.protected_loads.plain_state.declared.slot.SlotId.{SlotId}
+use Rattle.version_making.specs.protected_loads.plain_protocol.Owns.{HasSlot, Object}
+use Rattle.version_making.specs.protected_loads.core_events.declared.view.CoreView.{CoreView}
+use Rattle.version_making.specs.protected_loads.core_events.declared.view.Note.TheVariants as stands
+use Rattle.version_making.specs.protected_loads.core_events.Shows.{show_seat}
+use Rattle.version_making.specs.protected_loads.core_events.Views.{note_of}
+use Rattle.version_making.specs.protected_loads.domain_rule.Views.{object_in}
+use Rattle.version_making.specs.protected_loads.acquire_retire.Domains.{DomainState}
+use Rattle.version_making.specs.protected_loads.acquire_retire.Seats.{SeatState}
+use Rattle.version_making.specs.protected_loads.control_word.Moves.{KnowsStill}
+use Rattle.version_changes.specs.map_trees.Trees.{Pair, Shaped, Tree, pair, pairs}
+use Rattle.version_changes.specs.map_trees.Maps.{next}
 use Rattle.version_reading.specs.map_law.declared.view.Kid.{Kid}
 use Rattle.version_reading.specs.map_law.declared.view.Led.{Led}
 use Rattle.version_reading.specs.map_law.declared.view.View.{View}

@@ -1,11 +1,11 @@
 -- What an event of a part of a call is of the whole call.
 use Rattle.std.proofs.Common.{ℕ, List, ◌∷◌, ◌++◌, ap, sym, ◌∙◌, append_assoc}
-use Rattle.protected_loads.specs.plain_state.State.{Plain}
-use Rattle.protected_loads.specs.core_events.declared.view.CoreView.{CoreView}
-use Rattle.protected_loads.specs.core_events.declared.view.Move.{Move}
-use Rattle.protected_loads.specs.acquire_retire.Domains.{DomainState}
-use Rattle.protected_loads.specs.acquire_retire.Seats.{SeatState}
-use Rattle.protected_loads.specs.core_events.Shows.{shows}
+use Rattle.version_making.specs.protected_loads.plain_state.State.{Plain}
+use Rattle.version_making.specs.protected_loads.core_events.declared.view.CoreView.{CoreView}
+use Rattle.version_making.specs.protected_loads.core_events.declared.view.Move.{Move}
+use Rattle.version_making.specs.protected_loads.acquire_retire.Domains.{DomainState}
+use Rattle.version_making.specs.protected_loads.acquire_retire.Seats.{SeatState}
+use Rattle.version_making.specs.protected_loads.core_events.Shows.{shows}
 use Rattle.version_reading.specs.map_law.declared.view.View.{View}
 use Rattle.version_reading.specs.map_protocol.declared.law.MapLaw.{MapLaw}
 use Rattle.version_reading.specs.Reading.{AtALook, GoesOn, Saw}

@@ -1,41 +1,41 @@
 -- What the steps of an update are of the whole call.
 use Rattle.std.proofs.Common.{◌≡◌, inl, inr, ℕ, List, [], ◌∷◌, ◌++◌, refl, ap, sym, ◌∙◌, arith, append_assoc}
 use Rattle.std.specs.Prelude.{Option, Some, None}
-use Rattle.map_law.specs.plain_state.declared.act.EventPlace.TheVariants.{Cell}
-use Rattle.map_law.specs.plain_state.declared.act.PlainAct.{PlainAct}
-use Rattle.map_law.specs.plain_state.declared.slot.SlotId.{SlotId}
-use Rattle.map_law.specs.plain_state.declared.slot.Kind.TheVariants.{Strong}
-use Rattle.map_law.specs.plain_state.Steps.{word_of}
-use Rattle.map_law.specs.plain_state.State.{Plain}
-use Rattle.map_law.specs.plain_protocol.Owns.{OwnPart}
-use Rattle.map_law.specs.declared.view.View.{View}
-use Rattle.map_law.specs.Lessons.{see_next}
-use Rattle.map_law.specs.Nodes.{IsNode}
-use Rattle.map_protocol.specs.declared.law.MapLaw.{MapLaw}
-use Rattle.slot_store.specs.core_events.declared.act.Act.{Act}
-use Rattle.slot_store.specs.core_events.declared.act.Act.TheVariants as act
-use Rattle.slot_store.specs.core_events.declared.outcome.Outcome.{Outcome}
-use Rattle.slot_store.specs.core_events.declared.outcome.Outcome.TheVariants as outcome
-use Rattle.slot_store.specs.core_events.declared.view.CoreView.{CoreView}
-use Rattle.slot_store.specs.core_events.declared.view.Move.{Move}
-use Rattle.slot_store.specs.core_events.Counts.{one}
-use Rattle.slot_store.specs.core_events.Runs.{after as after_act}
-use Rattle.slot_store.specs.core_events.Shows.{shows}
-use Rattle.slot_store.specs.core_events.Steps.{changed}
-use Rattle.slot_store.specs.core_events.Words.{slot_in}
-use Rattle.slot_store.proofs.Below.core_law_Kit.{times_push}
-use Rattle.slot_store.proofs.Below.core_law_ShownPlaces.{word_slot}
-use Rattle.slot_store.proofs.Below.control_word_Becoming.{one_step}
-use Rattle.slot_store.specs.acquire_retire.Calls.{IsSameView, same_view}
-use Rattle.slot_store.specs.acquire_retire.Collecting.{move}
-use Rattle.slot_store.specs.acquire_retire.Domains.{DomainState}
-use Rattle.slot_store.specs.acquire_retire.Seats.{SeatState}
-use Rattle.slot_store.specs.control_word.Calls.{GainsStrong, with_strong}
-use Rattle.slot_store.specs.control_word.Moves.{KnowsStill}
-use Rattle.slot_store.specs.counted_handles.Handles.{Handle}
-use Rattle.atomic_shared.specs.protected_loads.Loads.{Misses}
-use Rattle.atomic_shared.specs.protected_loads.References.{Loads}
-use Rattle.atomic_shared.specs.Places.{named}
+use Rattle.version_making.specs.map_law.plain_state.declared.act.EventPlace.TheVariants.{Cell}
+use Rattle.version_making.specs.map_law.plain_state.declared.act.PlainAct.{PlainAct}
+use Rattle.version_making.specs.map_law.plain_state.declared.slot.SlotId.{SlotId}
+use Rattle.version_making.specs.map_law.plain_state.declared.slot.Kind.TheVariants.{Strong}
+use Rattle.version_making.specs.map_law.plain_state.Steps.{word_of}
+use Rattle.version_making.specs.map_law.plain_state.State.{Plain}
+use Rattle.version_making.specs.map_law.plain_protocol.Owns.{OwnPart}
+use Rattle.version_making.specs.map_law.declared.view.View.{View}
+use Rattle.version_making.specs.map_law.Lessons.{see_next}
+use Rattle.version_making.specs.map_law.Nodes.{IsNode}
+use Rattle.version_making.specs.map_protocol.declared.law.MapLaw.{MapLaw}
+use Rattle.version_making.specs.slot_store.core_events.declared.act.Act.{Act}
+use Rattle.version_making.specs.slot_store.core_events.declared.act.Act.TheVariants as act
+use Rattle.version_making.specs.slot_store.core_events.declared.outcome.Outcome.{Outcome}
+use Rattle.version_making.specs.slot_store.core_events.declared.outcome.Outcome.TheVariants as outcome
+use Rattle.version_making.specs.slot_store.core_events.declared.view.CoreView.{CoreView}
+use Rattle.version_making.specs.slot_store.core_events.declared.view.Move.{Move}
+use Rattle.version_making.specs.slot_store.core_events.Counts.{one}
+use Rattle.version_making.specs.slot_store.core_events.Runs.{after as after_act}
+use Rattle.version_making.specs.slot_store.core_events.Shows.{shows}
+use Rattle.version_making.specs.slot_store.core_events.Steps.{changed}
+use Rattle.version_making.specs.slot_store.core_events.Words.{slot_in}
+use Rattle.version_making.proofs.Below.core_law_Kit.{times_push}
+use Rattle.version_making.proofs.Below.core_law_ShownPlaces.{word_slot}
+use Rattle.version_making.proofs.Below.control_word_Becoming.{one_step}
+use Rattle.version_making.specs.slot_store.acquire_retire.Calls.{IsSameView, same_view}
+use Rattle.version_making.specs.slot_store.acquire_retire.Collecting.{move}
+use Rattle.version_making.specs.slot_store.acquire_retire.Domains.{DomainState}
+use Rattle.version_making.specs.slot_store.acquire_retire.Seats.{SeatState}
+use Rattle.version_making.specs.slot_store.control_word.Calls.{GainsStrong, with_strong}
+use Rattle.version_making.specs.slot_store.control_word.Moves.{KnowsStill}
+use Rattle.version_making.specs.slot_store.counted_handles.Handles.{Handle}
+use Rattle.version_making.specs.atomic_shared.protected_loads.Loads.{Misses}
+use Rattle.version_making.specs.atomic_shared.protected_loads.References.{Loads}
+use Rattle.version_making.specs.atomic_shared.Places.{named}
 use Rattle.version_making.specs.Keeping.{GoesOn, Keeps, none}
 use Rattle.version_making.proofs.Keeping.{goes_then, grows_same, keeps_core}
 use Rattle.version_updates.specs.Steps.{AtAStep}

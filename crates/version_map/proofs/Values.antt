@@ -2,10 +2,10 @@
 use Rattle.std.proofs.Common.{◌≡◌, ℕ, ◌≤◌, Bool, true, false, List, [], ◌∷◌, refl, ap, sym, ◌∙◌, arith}
 use Rattle.std.specs.Prelude.{Option, Some, None, ◌==◌, if◌then◌else◌, nat_lt}
 use Rattle.std.proofs.lemmas.Bool.Decides.{nat_tests}
-use Rattle.protected_loads.specs.acquire_retire.Domains.{DomainState}
-use Rattle.protected_loads.specs.acquire_retire.Seats.{SeatState}
-use Rattle.map_trees.specs.Trees.{AllAbove, Ascends, Pair, pairs}
-use Rattle.map_trees.specs.Maps.{get, next}
+use Rattle.version_making.specs.protected_loads.acquire_retire.Domains.{DomainState}
+use Rattle.version_making.specs.protected_loads.acquire_retire.Seats.{SeatState}
+use Rattle.version_changes.specs.map_trees.Trees.{AllAbove, Ascends, Pair, pairs}
+use Rattle.version_changes.specs.map_trees.Maps.{get, next}
 use Rattle.version_reading.specs.map_law.declared.view.View.{View}
 use Rattle.version_reading.specs.map_protocol.declared.law.MapLaw.{MapLaw}
 use Rattle.version_reading.specs.Reading.{AtALook, HasNext}

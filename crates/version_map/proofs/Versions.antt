@@ -2,28 +2,28 @@
 use Rattle.std.proofs.Common.{◌≡◌, ◌≢◌, ℕ, ◌+◌, ◌<◌, List, [], ◌++◌, length, refl, ap, sym, ◌∙◌, subst, arith}
 use Rattle.std.proofs.lemmas.List.{append-nil}
 use Rattle.std.specs.Prelude.{Err, IfOk, Ok, Option, Some, None, Result, slice_index}
-use Rattle.protected_loads.specs.plain_state.declared.slot.Kind.TheVariants.{Strong}
-use Rattle.protected_loads.specs.plain_state.declared.slot.SlotId.{SlotId}
-use Rattle.protected_loads.specs.plain_state.State.{Plain}
-use Rattle.protected_loads.specs.plain_state.Steps.{word_of}
-use Rattle.protected_loads.specs.plain_protocol.Owns.{HasSlot, Object}
-use Rattle.protected_loads.specs.core_events.declared.act.Act.TheVariants as act
-use Rattle.protected_loads.specs.core_events.declared.outcome.Outcome.{Outcome}
-use Rattle.protected_loads.specs.core_events.declared.view.CoreView.{CoreView}
-use Rattle.protected_loads.specs.core_events.declared.view.Note.TheVariants as stands
-use Rattle.protected_loads.specs.core_events.Shows.{show_seat, shows}
-use Rattle.protected_loads.specs.core_events.Steps.{with_note}
-use Rattle.protected_loads.specs.core_events.Views.{note_of}
-use Rattle.protected_loads.specs.core_events.Words.{slot_in}
-use Rattle.protected_loads.specs.domain_rule.Views.{object_in}
-use Rattle.protected_loads.specs.acquire_retire.Calls.{IsSameView, Steps, same_view}
-use Rattle.protected_loads.specs.acquire_retire.Domains.{DomainState}
-use Rattle.protected_loads.specs.acquire_retire.Seats.{SeatState}
-use Rattle.protected_loads.specs.control_word.Moves.{KnowsStill}
-use Rattle.protected_loads.proofs.Below.core_law_ShownPlaces.{slot_word}
-use Rattle.protected_loads.proofs.Noting.{second_stays, written_back}
-use Rattle.protected_loads.proofs.Telling.{four_notes}
-use Rattle.map_trees.specs.Trees.{Pair, leaf}
+use Rattle.version_making.specs.protected_loads.plain_state.declared.slot.Kind.TheVariants.{Strong}
+use Rattle.version_making.specs.protected_loads.plain_state.declared.slot.SlotId.{SlotId}
+use Rattle.version_making.specs.protected_loads.plain_state.State.{Plain}
+use Rattle.version_making.specs.protected_loads.plain_state.Steps.{word_of}
+use Rattle.version_making.specs.protected_loads.plain_protocol.Owns.{HasSlot, Object}
+use Rattle.version_making.specs.protected_loads.core_events.declared.act.Act.TheVariants as act
+use Rattle.version_making.specs.protected_loads.core_events.declared.outcome.Outcome.{Outcome}
+use Rattle.version_making.specs.protected_loads.core_events.declared.view.CoreView.{CoreView}
+use Rattle.version_making.specs.protected_loads.core_events.declared.view.Note.TheVariants as stands
+use Rattle.version_making.specs.protected_loads.core_events.Shows.{show_seat, shows}
+use Rattle.version_making.specs.protected_loads.core_events.Steps.{with_note}
+use Rattle.version_making.specs.protected_loads.core_events.Views.{note_of}
+use Rattle.version_making.specs.protected_loads.core_events.Words.{slot_in}
+use Rattle.version_making.specs.protected_loads.domain_rule.Views.{object_in}
+use Rattle.version_making.specs.protected_loads.acquire_retire.Calls.{IsSameView, Steps, same_view}
+use Rattle.version_making.specs.protected_loads.acquire_retire.Domains.{DomainState}
+use Rattle.version_making.specs.protected_loads.acquire_retire.Seats.{SeatState}
+use Rattle.version_making.specs.protected_loads.control_word.Moves.{KnowsStill}
+use Rattle.version_making.proofs.Below.core_law_ShownPlaces.{slot_word}
+use Rattle.version_making.proofs.Below.protected_loads_Noting.{second_stays, written_back}
+use Rattle.version_making.proofs.Below.protected_loads_Telling.{four_notes}
+use Rattle.version_changes.specs.map_trees.Trees.{Pair, leaf}
 use Rattle.version_reading.specs.map_law.declared.view.View.{View}
 use Rattle.version_reading.specs.map_law.Nodes.{IsNode, root}
 use Rattle.version_reading.specs.map_protocol.declared.law.MapLaw.{MapLaw}

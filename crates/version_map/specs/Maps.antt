@@ -1,13 +1,13 @@
 -- When a map may be read, and what a key has in it.
 use Rattle.std.specs.Prelude.{ℕ, ◌≡◌, ◌≢◌, ◌<◌, ◌≤◌, ◌==◌, ◌||◌, true, List, [], ◌∷◌, ◌++◌, length, map, nat_lt, take, Option, Some, None, if◌then◌else◌}
-use Rattle.protected_loads.specs.plain_state.declared.slot.SlotId.{SlotId}
-use Rattle.protected_loads.specs.plain_state.State.{Plain}
-use Rattle.protected_loads.specs.core_events.declared.view.CoreView.{CoreView}
-use Rattle.protected_loads.specs.core_events.declared.view.Note.TheVariants as stands
-use Rattle.protected_loads.specs.core_events.Views.{note_of}
-use Rattle.protected_loads.specs.acquire_retire.Seats.{SeatState}
-use Rattle.map_trees.specs.Trees.{Pair, Shaped, Tree, pair, pairs}
-use Rattle.map_trees.specs.Maps.{get, next}
+use Rattle.version_making.specs.protected_loads.plain_state.declared.slot.SlotId.{SlotId}
+use Rattle.version_making.specs.protected_loads.plain_state.State.{Plain}
+use Rattle.version_making.specs.protected_loads.core_events.declared.view.CoreView.{CoreView}
+use Rattle.version_making.specs.protected_loads.core_events.declared.view.Note.TheVariants as stands
+use Rattle.version_making.specs.protected_loads.core_events.Views.{note_of}
+use Rattle.version_making.specs.protected_loads.acquire_retire.Seats.{SeatState}
+use Rattle.version_changes.specs.map_trees.Trees.{Pair, Shaped, Tree, pair, pairs}
+use Rattle.version_changes.specs.map_trees.Maps.{get, next}
 use Rattle.version_reading.specs.map_law.declared.view.View.{View}
 use Rattle.version_reading.specs.map_law.Nodes.{root, TreeAt}
 use Rattle.version_reading.specs.Reading.{Saw, Sought}

@@ -1,9 +1,9 @@
 -- A seat between its calls on a map.
 use Rattle.std.specs.Prelude.{◌≡◌, false}
-use Rattle.map_law.specs.declared.view.View.{View}
-use Rattle.slot_store.specs.core_events.Views.{no_notes}
-use Rattle.slot_store.specs.acquire_retire.Domains.{DomainState}
-use Rattle.slot_store.specs.acquire_retire.Seats.{SeatState}
+use Rattle.version_making.specs.map_law.declared.view.View.{View}
+use Rattle.version_making.specs.slot_store.core_events.Views.{no_notes}
+use Rattle.version_making.specs.slot_store.acquire_retire.Domains.{DomainState}
+use Rattle.version_making.specs.slot_store.acquire_retire.Seats.{SeatState}
 use Rattle.version_making.specs.Keeping.{IsReadyFor}
 
 -- It may begin each call on the map: it is in no call, announces nothing, has room for what a store retires, takes part

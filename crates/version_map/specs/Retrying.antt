@@ -1,9 +1,9 @@
 -- An update that is tried again after each try that was lost to another seat.
 use Rattle.std.specs.Prelude.{ℕ, ◌≡◌, ◌⊎◌}
-use Rattle.map_law.specs.declared.view.View.{View}
-use Rattle.map_protocol.specs.declared.law.MapLaw.{MapLaw}
-use Rattle.slot_store.specs.acquire_retire.Domains.{DomainState}
-use Rattle.slot_store.specs.acquire_retire.Seats.{SeatState}
+use Rattle.version_making.specs.map_law.declared.view.View.{View}
+use Rattle.version_making.specs.map_protocol.declared.law.MapLaw.{MapLaw}
+use Rattle.version_making.specs.slot_store.acquire_retire.Domains.{DomainState}
+use Rattle.version_making.specs.slot_store.acquire_retire.Seats.{SeatState}
 use Rattle.version_making.specs.Keeping.{GoesOn, Keeps, none}
 use Rattle.version_updates.specs.Publishing.{but_for}
 use Rattle.version_map.specs.Updating.{IsAgain, Leaves}

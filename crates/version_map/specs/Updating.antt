@@ -1,25 +1,25 @@
 -- What an update of the map does, and what it leaves where it is refused.
 use Rattle.std.specs.Prelude.{ℕ, ◌≡◌, ◌≢◌, ◌⊎◌, ◌+◌, ◌*◌, ◌<◌, ◌^◌, Bool, true, false, List, [], ◌∷◌, ◌++◌, Option, Some, None}
-use Rattle.map_law.specs.plain_state.declared.act.EventPlace.TheVariants.{Cell}
-use Rattle.map_law.specs.plain_state.declared.slot.SlotId.{SlotId}
-use Rattle.map_law.specs.plain_state.Steps.{word_of}
-use Rattle.map_trees.specs.declared.change.Change.{Change}
-use Rattle.map_trees.specs.declared.change.Change.TheVariants as change
-use Rattle.map_law.specs.declared.view.View.{View}
-use Rattle.map_law.specs.Lessons.{answer_next, see_next}
-use Rattle.map_law.specs.Nodes.{IsNode, root}
-use Rattle.map_law.specs.Patterns.{Pattern, Spells}
-use Rattle.map_law.specs.Publishing.{ChangesMap, PublishTells, entry_of, publish_next}
-use Rattle.map_protocol.specs.declared.law.MapLaw.{MapLaw}
-use Rattle.slot_store.specs.core_events.declared.act.Act.TheVariants as act
-use Rattle.slot_store.specs.core_events.declared.outcome.Outcome.TheVariants as outcome
-use Rattle.slot_store.specs.core_events.declared.view.Move.{Move}
-use Rattle.slot_store.specs.counted_handles.Handles.{Handle}
-use Rattle.slot_store.specs.acquire_retire.Domains.{DomainState}
-use Rattle.slot_store.specs.acquire_retire.Seats.{SeatState}
-use Rattle.slot_store.specs.declared.making.MakeError.{MakeError}
-use Rattle.atomic_shared.specs.protected_loads.References.{Loads}
-use Rattle.atomic_shared.specs.Places.{named}
+use Rattle.version_making.specs.map_law.plain_state.declared.act.EventPlace.TheVariants.{Cell}
+use Rattle.version_making.specs.map_law.plain_state.declared.slot.SlotId.{SlotId}
+use Rattle.version_making.specs.map_law.plain_state.Steps.{word_of}
+use Rattle.version_changes.specs.map_trees.declared.change.Change.{Change}
+use Rattle.version_changes.specs.map_trees.declared.change.Change.TheVariants as change
+use Rattle.version_making.specs.map_law.declared.view.View.{View}
+use Rattle.version_making.specs.map_law.Lessons.{answer_next, see_next}
+use Rattle.version_making.specs.map_law.Nodes.{IsNode, root}
+use Rattle.version_making.specs.map_law.Patterns.{Pattern, Spells}
+use Rattle.version_making.specs.map_law.Publishing.{ChangesMap, PublishTells, entry_of, publish_next}
+use Rattle.version_making.specs.map_protocol.declared.law.MapLaw.{MapLaw}
+use Rattle.version_making.specs.slot_store.core_events.declared.act.Act.TheVariants as act
+use Rattle.version_making.specs.slot_store.core_events.declared.outcome.Outcome.TheVariants as outcome
+use Rattle.version_making.specs.slot_store.core_events.declared.view.Move.{Move}
+use Rattle.version_making.specs.slot_store.counted_handles.Handles.{Handle}
+use Rattle.version_making.specs.slot_store.acquire_retire.Domains.{DomainState}
+use Rattle.version_making.specs.slot_store.acquire_retire.Seats.{SeatState}
+use Rattle.version_making.specs.slot_store.declared.making.MakeError.{MakeError}
+use Rattle.version_making.specs.atomic_shared.protected_loads.References.{Loads}
+use Rattle.version_making.specs.atomic_shared.Places.{named}
 use Rattle.version_making.specs.Building.{IsWhy, height_by}
 use Rattle.version_making.specs.Keeping.{GoesOn, Keeps, none}
 use Rattle.version_making.specs.Standing.{Stands, kid_by}

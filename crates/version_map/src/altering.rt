@@ -1,9 +1,9 @@
 //! A version is changed, and the new one published.
 ghost use Rattle.std.specs.Prelude.{◌≡◌, ◌≤◌, ◌<◌, ◌+◌, ◌*◌, IfErr, IfOk, false};
-ghost use Rattle.map_law.specs.plain_state.Lists.{times};
-ghost use Rattle.map_law.specs.plain_state.declared.slot.SlotId.{SlotId};
-ghost use Rattle.slot_store.specs.core_events.Steps.{IsContent};
-ghost use Rattle.atomic_shared.specs.Places.{named};
+ghost use Rattle.version_making.specs.map_law.plain_state.Lists.{times};
+ghost use Rattle.version_making.specs.map_law.plain_state.declared.slot.SlotId.{SlotId};
+ghost use Rattle.version_making.specs.slot_store.core_events.Steps.{IsContent};
+ghost use Rattle.version_making.specs.atomic_shared.Places.{named};
 ghost use Rattle.version_making.specs.Building.{height_by};
 ghost use Rattle.version_making.specs.Keeping.{IsReadyFor, Keeps, OwnsBoth, none, of_both, of_handle};
 ghost use Rattle.version_making.specs.Standing.{IsTree};
@@ -17,10 +17,8 @@ ghost use Rattle.version_map.specs.Updating.{HasAltered, IsDone, IsStopped, Sees
 
 use crate::handles::copy_root;
 use crate::outcome::UpdateError;
-use map_protocol::MapLaw;
-use slot_store::{Domain, MakeError, Seat, Strong};
 use version_changes::{Change, ChangeError, Changed, change_below};
-use version_making::{give_up, height_at};
+use version_making::{Domain, MakeError, MapLaw, Seat, Strong, give_up, height_at};
 use version_updates::{Lost, Update, publish, still_root};
 
 /// Changes one key of the version of a root, which it takes over, and publishes the new version. Nothing is published

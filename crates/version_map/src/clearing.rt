@@ -1,14 +1,13 @@
 //! The end of a map.
 ghost use Rattle.std.specs.Prelude.{◌≡◌, true};
-ghost use Rattle.slot_store.specs.domain_rule.Views.{IsAlone};
+ghost use Rattle.version_making.specs.slot_store.domain_rule.Views.{IsAlone};
 ghost use Rattle.version_making.specs.Keeping.{IsReadyFor, Keeps, none};
 ghost use Rattle.version_reading.specs.Reading.{IsOver};
 ghost use Rattle.version_updates.specs.Clearing.{IsCleared};
 ghost use Rattle.version_updates.specs.Publishing.{but_for};
 
 use crate::map::VersionMap;
-use map_protocol::MapLaw;
-use slot_store::{Domain, Seat};
+use version_making::{Domain, MapLaw, Seat};
 use version_updates::clear;
 
 impl VersionMap {

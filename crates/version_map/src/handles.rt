@@ -1,14 +1,12 @@
 //! Handles of a root, which may be null.
 ghost use Rattle.std.specs.Prelude.{◌≡◌, ◌≤◌, ◌<◌, IfOk, OnErr, Some};
-ghost use Rattle.map_law.specs.plain_state.Lists.{times};
-ghost use Rattle.map_law.specs.plain_state.declared.slot.SlotId.{SlotId};
-ghost use Rattle.slot_store.specs.control_word.Resting.{IsSpent};
+ghost use Rattle.version_making.specs.map_law.plain_state.Lists.{times};
+ghost use Rattle.version_making.specs.map_law.plain_state.declared.slot.SlotId.{SlotId};
+ghost use Rattle.version_making.specs.slot_store.control_word.Resting.{IsSpent};
 ghost use Rattle.version_making.specs.Keeping.{IsReadyFor, Keeps, none, of_handle};
 ghost use Rattle.version_making.specs.Opening.{of_load};
 
-use map_protocol::MapLaw;
-use protected_loads::{Spent, copy_strong};
-use slot_store::{Domain, Seat, Strong};
+use version_making::{Domain, MapLaw, Seat, Spent, Strong, copy_strong};
 
 /// One more reference to a root, if there is one. Refused exactly where it would use an add and none is left. At most
 /// one step, and one add.

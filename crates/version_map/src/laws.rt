@@ -1,13 +1,13 @@
 //! What calls on a map leave of a seat, one after another.
 ghost use Rattle.std.specs.Prelude.{◌≡◌, ℕ, false};
-ghost use Rattle.map_law.specs.Views.{first_view};
-ghost use Rattle.map_law.specs.declared.view.View.{View};
-ghost use Rattle.map_protocol.specs.declared.law.MapLaw.{MapLaw as Maps};
-ghost use Rattle.slot_store.specs.core_events.Steps.{HasRoom};
-ghost use Rattle.slot_store.specs.core_events.Views.{no_notes};
-ghost use Rattle.slot_store.specs.acquire_retire.Domains.{DomainState};
-ghost use Rattle.slot_store.specs.acquire_retire.Seats.{SeatState};
-ghost use Rattle.slot_store.specs.control_word.Resting.{IsAtRest};
+ghost use Rattle.version_making.specs.map_law.Views.{first_view};
+ghost use Rattle.version_making.specs.map_law.declared.view.View.{View};
+ghost use Rattle.version_making.specs.map_protocol.declared.law.MapLaw.{MapLaw as Maps};
+ghost use Rattle.version_making.specs.slot_store.core_events.Steps.{HasRoom};
+ghost use Rattle.version_making.specs.slot_store.core_events.Views.{no_notes};
+ghost use Rattle.version_making.specs.slot_store.acquire_retire.Domains.{DomainState};
+ghost use Rattle.version_making.specs.slot_store.acquire_retire.Seats.{SeatState};
+ghost use Rattle.version_making.specs.slot_store.control_word.Resting.{IsAtRest};
 ghost use Rattle.version_making.specs.Keeping.{IsReadyFor};
 ghost use Rattle.version_reading.specs.Reading.{Reads};
 ghost use Rattle.version_map.specs.Maps.{CanRead};

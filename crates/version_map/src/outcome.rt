@@ -1,5 +1,5 @@
 //! Why an update changed nothing.
-use slot_store::MakeError;
+use version_making::MakeError;
 
 /// Why an update changed nothing. Then neither the map nor the entries of the seat have changed by the call.
 #[derive(Clone, Copy, PartialEq, Eq, Debug, Drop)]

@@ -1,13 +1,13 @@
 //! Reads of a map, in one try.
 ghost use Rattle.std.specs.Prelude.{◌≡◌, IfErr, IfOk};
-ghost use Rattle.protected_loads.specs.control_word.Moves.{KnowsStill};
-ghost use Rattle.protected_loads.specs.control_word.Resting.{IsAtRest};
+ghost use Rattle.version_making.specs.protected_loads.control_word.Moves.{KnowsStill};
+ghost use Rattle.version_making.specs.protected_loads.control_word.Resting.{IsAtRest};
 ghost use Rattle.version_reading.specs.Reading.{AtALook, HasNext, IsMoved, IsOver, Reads, pair_by};
 ghost use Rattle.version_map.specs.Maps.{CanRead, HasValue, value_in};
 
 use crate::map::{Moved, VersionMap};
 use crate::searching::search_version;
-use protected_loads::{Domain, Seat, held_as};
+use version_making::{Domain, Seat, held_as};
 use version_reading::{MapLaw, hold_root};
 
 impl VersionMap {

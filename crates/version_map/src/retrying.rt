@@ -8,10 +8,9 @@ ghost use Rattle.version_map.specs.Updating.{IsDone, IsRefused};
 use crate::map::VersionMap;
 use crate::outcome::UpdateError;
 use crossbeam_utils::Backoff;
-use map_protocol::MapLaw;
-use slot_store::{Domain, MakeError, Seat};
 use std::sync::Wait;
 use version_changes::Change;
+use version_making::{Domain, MakeError, MapLaw, Seat};
 
 impl VersionMap {
     /// Changes one key, and answers what it had, as `try_update` does. It tries again as long as another seat is

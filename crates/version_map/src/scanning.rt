@@ -1,18 +1,18 @@
 //! A scan of one version, whose root is held for its time.
 ghost use Rattle.std.specs.Prelude.{◌≡◌, ◌≢◌, ◌+◌, ◌<◌, IfErr, IfOk, IfSome, None, length, slice_index, true};
-ghost use Rattle.protected_loads.specs.plain_state.declared.slot.Kind.TheVariants.{Strong};
-ghost use Rattle.protected_loads.specs.core_events.declared.view.Note.TheVariants as stands;
-ghost use Rattle.protected_loads.specs.core_events.Steps.{with_note};
-ghost use Rattle.protected_loads.specs.core_events.Views.{note_of};
-ghost use Rattle.protected_loads.specs.domain_rule.Views.{object_in};
-ghost use Rattle.protected_loads.specs.acquire_retire.Notes.{least_free};
-ghost use Rattle.protected_loads.specs.control_word.Moves.{KnowsStill};
-ghost use Rattle.protected_loads.specs.control_word.Resting.{IsAtRest};
+ghost use Rattle.version_making.specs.protected_loads.plain_state.declared.slot.Kind.TheVariants.{Strong};
+ghost use Rattle.version_making.specs.protected_loads.core_events.declared.view.Note.TheVariants as stands;
+ghost use Rattle.version_making.specs.protected_loads.core_events.Steps.{with_note};
+ghost use Rattle.version_making.specs.protected_loads.core_events.Views.{note_of};
+ghost use Rattle.version_making.specs.protected_loads.domain_rule.Views.{object_in};
+ghost use Rattle.version_making.specs.protected_loads.acquire_retire.Notes.{least_free};
+ghost use Rattle.version_making.specs.protected_loads.control_word.Moves.{KnowsStill};
+ghost use Rattle.version_making.specs.protected_loads.control_word.Resting.{IsAtRest};
 ghost use Rattle.version_reading.specs.Reading.{AtALook, HasNode, IsFree, IsLonger, IsOver, IsReading, Reads};
 ghost use Rattle.version_map.specs.Maps.{HasRange, Scanned, SeesAnother};
 
 use crate::map::Moved;
-use protected_loads::{Domain, Seat, SlotId, held_as};
+use version_making::{Domain, Seat, SlotId, held_as};
 use version_reading::{MapLaw, look_at_root, seek};
 
 /// The pairs with keys in a range, its ends among them, in the version of a root that the seat holds by `word`, put

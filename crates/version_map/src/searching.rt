@@ -1,17 +1,17 @@
 //! A search of one version, whose root is held for its time.
 ghost use Rattle.std.specs.Prelude.{◌≡◌, ◌≢◌, ◌+◌, ◌<◌, IfErr, IfOk, None, true};
-ghost use Rattle.protected_loads.specs.plain_state.declared.slot.Kind.TheVariants.{Strong};
-ghost use Rattle.protected_loads.specs.core_events.declared.view.Note.TheVariants as stands;
-ghost use Rattle.protected_loads.specs.core_events.Steps.{with_note};
-ghost use Rattle.protected_loads.specs.core_events.Views.{note_of};
-ghost use Rattle.protected_loads.specs.acquire_retire.Notes.{least_free};
-ghost use Rattle.protected_loads.specs.control_word.Moves.{KnowsStill};
-ghost use Rattle.protected_loads.specs.control_word.Resting.{IsAtRest};
+ghost use Rattle.version_making.specs.protected_loads.plain_state.declared.slot.Kind.TheVariants.{Strong};
+ghost use Rattle.version_making.specs.protected_loads.core_events.declared.view.Note.TheVariants as stands;
+ghost use Rattle.version_making.specs.protected_loads.core_events.Steps.{with_note};
+ghost use Rattle.version_making.specs.protected_loads.core_events.Views.{note_of};
+ghost use Rattle.version_making.specs.protected_loads.acquire_retire.Notes.{least_free};
+ghost use Rattle.version_making.specs.protected_loads.control_word.Moves.{KnowsStill};
+ghost use Rattle.version_making.specs.protected_loads.control_word.Resting.{IsAtRest};
 ghost use Rattle.version_reading.specs.Reading.{AtALook, HasNext, HasNode, IsOver, Reads, pair_by};
 ghost use Rattle.version_map.specs.Maps.{SeesAnother};
 
 use crate::map::Moved;
-use protected_loads::{Domain, Seat, SlotId, held_as};
+use version_making::{Domain, Seat, SlotId, held_as};
 use version_reading::{MapLaw, look_at_root, seek};
 
 /// The least pair with at least this key in the version of a root that the seat holds by `word`; that word stands for

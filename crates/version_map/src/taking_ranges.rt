@@ -1,15 +1,15 @@
 //! Scans of a range of keys.
 ghost use Rattle.std.specs.Prelude.{◌≡◌, IfErr, IfOk, length};
-ghost use Rattle.protected_loads.specs.control_word.Moves.{KnowsStill};
-ghost use Rattle.protected_loads.specs.control_word.Resting.{IsAtRest};
+ghost use Rattle.version_making.specs.protected_loads.control_word.Moves.{KnowsStill};
+ghost use Rattle.version_making.specs.protected_loads.control_word.Resting.{IsAtRest};
 ghost use Rattle.version_reading.specs.Reading.{AtALook, IsMoved, IsOver, Reads};
 ghost use Rattle.version_map.specs.Maps.{CanRead, HasRange};
 
 use crate::map::{Moved, VersionMap};
 use crate::scanning::range_of_version;
 use crossbeam_utils::Backoff;
-use protected_loads::{Domain, Seat, held_as};
 use std::sync::Wait;
+use version_making::{Domain, Seat, held_as};
 use version_reading::{MapLaw, hold_root};
 
 impl VersionMap {

@@ -7,10 +7,8 @@ ghost use Rattle.version_map.specs.Updating.{IsDone, IsUndone, Leaves};
 use crate::altering::change_version;
 use crate::map::VersionMap;
 use crate::outcome::UpdateError;
-use atomic_shared::LoadError;
-use map_protocol::MapLaw;
-use slot_store::{Domain, MakeError, Seat};
 use version_changes::Change;
+use version_making::{Domain, LoadError, MakeError, MapLaw, Seat};
 use version_updates::load_low_root;
 
 impl VersionMap {

@@ -1,15 +1,15 @@
 //! Reads that are tried again until no other seat is quicker.
 ghost use Rattle.std.specs.Prelude.{◌≡◌};
-ghost use Rattle.protected_loads.specs.control_word.Moves.{KnowsStill};
-ghost use Rattle.protected_loads.specs.control_word.Resting.{IsAtRest};
+ghost use Rattle.version_making.specs.protected_loads.control_word.Moves.{KnowsStill};
+ghost use Rattle.version_making.specs.protected_loads.control_word.Resting.{IsAtRest};
 ghost use Rattle.version_reading.specs.Reading.{AtALook, HasNext, IsOver, Reads, pair_by};
 ghost use Rattle.version_map.specs.Maps.{CanRead, HasValue};
 
 use crate::map::VersionMap;
 use crate::reading::value_at;
 use crossbeam_utils::Backoff;
-use protected_loads::{Domain, Seat};
 use std::sync::Wait;
+use version_making::{Domain, Seat};
 use version_reading::MapLaw;
 
 impl VersionMap {

@@ -1,6 +1,6 @@
 use Rattle.std.proofs.Common.{ℕ, ◌<◌, get_or}
 use Rattle.cell_rest.specs.cell_law.directory_law.Bytes.{AreBytes}
-use Rattle.lane_work.specs.declared.file.FileText.{FileText}
+use Rattle.cell_lanes.specs.lane_work.declared.file.FileText.{FileText}
 use Rattle.cell_gathering.proofs.laws.words_are_bytes.Given as goal
 
 abbrev pub invariant-loop-file : goal.invariant-loop-file

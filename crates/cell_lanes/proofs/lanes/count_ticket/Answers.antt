@@ -2,8 +2,8 @@ use Rattle.std.proofs.Common.{List, refl, sym, ap, subst, ◌∙◌, arith}
 use Rattle.std.specs.Prelude.{drop}
 use Rattle.std.proofs.lemmas.List.{drop_at}
 use Rattle.std.proofs.lemmas.Result.{err_from_is_err_and}
-use Rattle.cell_calls.specs.cell_law.plain_state.Lists.{times}
-use Rattle.epoch_domain.proofs.Below.core_law_Kit.{times_append}
+use Rattle.cell_intern.specs.cell_calls.cell_law.plain_state.Lists.{times}
+use Rattle.cell_intern.proofs.Below.core_law_Kit.{times_append}
 use Rattle.lane_work.specs.Keeping.{slots_of}
 use Rattle.lane_work.specs.counted_handles.Handles.{Handle}
 use Rattle.cell_lanes.specs.Counting.{CountsFile}

@@ -1,9 +1,9 @@
 use Rattle.std.proofs.Common.{◌<◌, arith}
-use Rattle.cell_calls.specs.Cells.{area_of}
-use Rattle.cell_calls.specs.cell_law.Lessons.{ClearTells, clear_next}
-use Rattle.directory_law.specs.Bytes.{IsPiece}
+use Rattle.cell_intern.specs.cell_calls.Cells.{area_of}
+use Rattle.cell_intern.specs.cell_calls.cell_law.Lessons.{ClearTells, clear_next}
+use Rattle.cell_rest.specs.directory_law.Bytes.{IsPiece}
 use Rattle.epoch_alone.proofs.Clearing.{clears}
-use Rattle.epoch_refs.specs.epoch_rule.Views.{own_of}
+use Rattle.cell_intern.specs.epoch_refs.epoch_rule.Views.{own_of}
 use Rattle.cell_records.proofs.Cleared.{clear_ready}
 use Rattle.cell_records.proofs.clearing.clear_cell.Goals as goal
 

@@ -1,5 +1,5 @@
 use Rattle.std.proofs.Common.{ap, arith}
-use Rattle.epoch_core.specs.declared.shape.EpochShape.{EpochShape}
+use Rattle.epoch_alone.specs.epoch_core.declared.shape.EpochShape.{EpochShape}
 use Rattle.cell_records.proofs.Cleared.{cleared_is}
 use Rattle.cell_records.proofs.Nulls.{null_all}
 use Rattle.cell_records.proofs.clearing.clear_cells.Goals as goal

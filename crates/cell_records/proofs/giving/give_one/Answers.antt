@@ -1,4 +1,4 @@
-use Rattle.cell_making.proofs.Kept.{drop_keeps}
+use Rattle.cell_intern.proofs.Below.cell_making_Kept.{drop_keeps}
 use Rattle.cell_records.proofs.Dropped.{drop_cells, drop_owns}
 use Rattle.cell_records.proofs.Nulls.{null_both}
 use Rattle.cell_records.proofs.Staying.{root_on}

@@ -1,5 +1,5 @@
 use Rattle.std.proofs.Common.{ap, ◌∙◌}
-use Rattle.cell_calls.specs.cell_law.declared.view.View.{View}
+use Rattle.cell_intern.specs.cell_calls.cell_law.declared.view.View.{View}
 use Rattle.cell_records.proofs.Alive.{knows_lives}
 use Rattle.cell_records.proofs.lives.learn_lives.Goals as goal
 

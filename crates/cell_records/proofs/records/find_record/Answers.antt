@@ -1,9 +1,9 @@
 use Rattle.std.proofs.Common.{ℕ, List, subst}
-use Rattle.cell_calls.specs.cell_law.Views.{TellsNone}
-use Rattle.cell_calls.specs.cell_law.directory_law.Views.{In, rope}
-use Rattle.epoch_refs.specs.epoch_rule.Views.{object_in}
-use Rattle.record_texts.specs.Texts.{text_of}
-use Rattle.record_texts.proofs.Packed.{is_text_of}
+use Rattle.cell_intern.specs.cell_calls.cell_law.Views.{TellsNone}
+use Rattle.cell_intern.specs.cell_calls.cell_law.directory_law.Views.{In, rope}
+use Rattle.cell_intern.specs.epoch_refs.epoch_rule.Views.{object_in}
+use Rattle.cell_intern.specs.record_texts.Texts.{text_of}
+use Rattle.cell_intern.proofs.Below.record_texts_Packed.{is_text_of}
 use Rattle.cell_records.proofs.Telling.{found_tells, never_untold}
 use Rattle.cell_records.proofs.records.find_record.Goals as goal
 

@@ -1,14 +1,14 @@
 use Rattle.std.proofs.Common.{◌∷◌, ◌++◌, [], List, ℕ, length, length-append, append-nil, ap, sym, ◌∙◌, subst, arith}
 use Rattle.std.specs.Borrow.{Bor}
 use Rattle.std.specs.List.{All}
-use Rattle.cell_calls.specs.Keeping.{Keeps, Learns}
-use Rattle.cell_calls.proofs.Keeping.{keeps_self}
-use Rattle.cell_calls.specs.cell_law.declared.view.View.{View}
-use Rattle.cell_calls.specs.cell_law.plain_state.declared.slot.SlotId.{SlotId}
-use Rattle.cell_finding.proofs.Looks.{learns_then}
+use Rattle.cell_intern.specs.cell_calls.Keeping.{Keeps, Learns}
+use Rattle.cell_intern.proofs.Below.cell_calls_Keeping.{keeps_self}
+use Rattle.cell_intern.specs.cell_calls.cell_law.declared.view.View.{View}
+use Rattle.cell_intern.specs.cell_calls.cell_law.plain_state.declared.slot.SlotId.{SlotId}
+use Rattle.cell_intern.proofs.Below.cell_finding_Looks.{learns_then}
 use Rattle.cell_intern.proofs.Around.{around_keeps, same_client}
 use Rattle.domain_audit.proofs.Below.slot_store_Quieting.{no_items}
-use Rattle.epoch_refs.specs.epoch_core.declared.view.EpochView.{EpochView}
+use Rattle.cell_intern.specs.epoch_refs.epoch_core.declared.view.EpochView.{EpochView}
 use Rattle.tally_sums.specs.Sums.{SumsUp}
 use Rattle.tally_sums.specs.cdrc_text.Tally.{shown_entries}
 use Rattle.cell_records.specs.Records.{IsRecordOf, IsTold, sums_in}

@@ -1,7 +1,7 @@
 use Rattle.std.proofs.Common.{◌≤◌, ◌+◌, ◌++◌, length}
 use Rattle.std.specs.Prelude.{vec_capacity}
 use Rattle.std.specs.List.{All}
-use Rattle.cell_calls.specs.Keeping.{Keeps, Learns}
+use Rattle.cell_intern.specs.cell_calls.Keeping.{Keeps, Learns}
 use Rattle.cell_intern.specs.Interning.{IsInRegion}
 use Rattle.tally_sums.specs.Sums.{SumsUp}
 use Rattle.tally_sums.specs.cdrc_text.Tally.{shown_entries}

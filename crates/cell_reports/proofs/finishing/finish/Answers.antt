@@ -1,6 +1,6 @@
 use Rattle.std.proofs.Common.{subst, sym}
 use Rattle.std.specs.Prelude.{length}
-use Rattle.tally_sums.specs.Sums.{Tallies}
+use Rattle.cell_records.specs.tally_sums.Sums.{Tallies}
 use Rattle.cell_reports.specs.Counted.{HasCounted}
 use Rattle.cell_reports.proofs.finishing.finish.Goals as goal
 

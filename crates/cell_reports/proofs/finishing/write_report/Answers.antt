@@ -2,8 +2,8 @@ use Rattle.std.proofs.Common.{rules, ◌≡◌, sym, ap, subst, ◌∙◌, arith
 use Rattle.std.specs.Prelude.{length}
 use Rattle.std.specs.Vec.{vec_len}
 use Rattle.cell_gathering.specs.cdrc_text.Text.{IsReport}
-use Rattle.cell_law.specs.declared.view.View.{View}
-use Rattle.lane_work.specs.Sizes.{texts_in}
+use Rattle.cell_records.specs.cell_law.declared.view.View.{View}
+use Rattle.cell_records.specs.lane_work.Sizes.{texts_in}
 use Rattle.cell_reports.specs.Last.{ListsWords}
 use Rattle.cell_reports.proofs.AtRest.{knows_null, none_live, nothing_found}
 use Rattle.cell_reports.proofs.Kept.{given_up, kept_owned, lists_words, reaches}

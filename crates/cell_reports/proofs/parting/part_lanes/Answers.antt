@@ -1,6 +1,6 @@
 use Rattle.std.proofs.Common.{rules, inr, ◌++◌, ◌∷◌, [], List, append-nil, append_assoc, sym, ap, subst, ◌∙◌, arith, length}
 use Rattle.std.proofs.lemmas.Result.{err_from_is_err_and}
-use Rattle.domain_audit.proofs.Below.slot_store_Quieting.{no_items}
+use Rattle.cell_records.proofs.Below.slot_store_Quieting.{no_items}
 use Rattle.cell_domain.specs.declared.ending.LaneEnd.{LaneEnd}
 use Rattle.cell_gathering.specs.declared.done.Done.{Done}
 use Rattle.cell_reports.specs.Parting.{AllRan}

@@ -1,6 +1,6 @@
 use Rattle.std.proofs.Common.{arith, sym, ◌∙◌, subst, ◌+◌, ◌*◌}
 use Rattle.std.specs.Prelude.{None}
-use Rattle.atomic_shared.specs.Places.{named}
+use Rattle.version_making.specs.atomic_shared.Places.{named}
 use Rattle.version_making.specs.Building.{height_by}
 use Rattle.version_changes.specs.Changing.{IsRefusal}
 use Rattle.version_map.specs.Updating.{IsStopped}

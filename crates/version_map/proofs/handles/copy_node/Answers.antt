@@ -1,6 +1,6 @@
 use Rattle.std.proofs.Common.{subst}
-use Rattle.map_law.specs.plain_state.declared.slot.SlotId.{SlotId}
-use Rattle.slot_store.specs.core_events.Counts.{one}
+use Rattle.version_making.specs.map_law.plain_state.declared.slot.SlotId.{SlotId}
+use Rattle.version_making.specs.slot_store.core_events.Counts.{one}
 use Rattle.std.proofs.Common.{sym}
 use Rattle.version_making.specs.Keeping.{Keeps, none}
 use Rattle.version_map.proofs.Updates.{keeps_copied}

@@ -1,5 +1,5 @@
 use Rattle.std.proofs.Common.{subst, ◌≤◌}
-use Rattle.map_law.specs.plain_state.Lists.{times}
+use Rattle.version_making.specs.map_law.plain_state.Lists.{times}
 use Rattle.version_making.specs.Keeping.{of_handle}
 use Rattle.version_making.proofs.Own.{handle_owned}
 use Rattle.version_map.proofs.handles.copy_root.Goals as goal

@@ -1,0 +1,21 @@
+-- What callers cite of the proofs of the crates below.
+pub use Rattle.tally_sums.proofs.Below.cdrc_text_Listed as cdrc_text_Listed
+pub use Rattle.tally_sums.proofs.Below.cdrc_text_Unique as cdrc_text_Unique
+pub use Rattle.cell_intern.proofs.Below.cell_calls_Keeping as cell_calls_Keeping
+pub use Rattle.cell_rest.proofs.Below.cell_law_Distinct as cell_law_Distinct
+pub use Rattle.cell_rest.proofs.Below.cell_law_Kit as cell_law_Kit
+pub use Rattle.cell_rest.proofs.Below.cell_law_Rest as cell_law_Rest
+pub use Rattle.cell_rest.proofs.Joining as cell_rest_Joining
+pub use Rattle.cell_rest.proofs.KeptWords as cell_rest_KeptWords
+pub use Rattle.cell_rest.proofs.Left as cell_rest_Left
+pub use Rattle.cell_rest.proofs.Settled as cell_rest_Settled
+pub use Rattle.cell_rest.proofs.Below.directory_law_Bytes as directory_law_Bytes
+pub use Rattle.epoch_alone.proofs.Back as epoch_alone_Back
+pub use Rattle.epoch_alone.proofs.Known as epoch_alone_Known
+pub use Rattle.epoch_alone.proofs.Learns as epoch_alone_Learns
+pub use Rattle.epoch_alone.proofs.Objects as epoch_alone_Objects
+pub use Rattle.epoch_alone.proofs.Settled as epoch_alone_Settled
+pub use Rattle.lane_work.proofs.Pieces as lane_work_Pieces
+pub use Rattle.cell_intern.proofs.Below.record_texts_Packed as record_texts_Packed
+pub use Rattle.domain_audit.proofs.Below.slot_store_Quieting as slot_store_Quieting
+pub use Rattle.domain_audit.proofs.Below.slot_store_Turning as slot_store_Turning
