@@ -1,4 +1,5 @@
 pub mod Settling
+pub mod Learned
 pub mod Beginning
 pub mod Rests
 pub mod Given

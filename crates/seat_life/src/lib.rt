@@ -21,6 +21,7 @@
 #![tactic(auto)]
 
 mod ending;
+mod learning;
 mod leaving;
 mod opening;
 mod reading;
@@ -29,6 +30,7 @@ mod threads;
 mod turns;
 
 pub use ending::{Settled, close, settle_and_audit};
+pub use learning::learn_law;
 pub use leaving::leave_all;
 pub use opening::{Opened, open_seats};
 pub use payload_reading::read_all;
