@@ -1,5 +1,5 @@
 //! What calls on a map leave of a seat, one after another.
-ghost use Rattle.std.specs.Prelude.{◌≡◌, ℕ, false};
+ghost use Rattle.std.specs.Prelude.{◌≡◌, ℕ, [], false};
 ghost use Rattle.version_making.specs.map_law.Views.{first_view};
 ghost use Rattle.version_making.specs.map_law.declared.view.View.{View};
 ghost use Rattle.version_making.specs.map_protocol.declared.law.MapLaw.{MapLaw as Maps};
@@ -26,11 +26,12 @@ pub fn updates_leave_the_rest()
         → LeavesSome old new }
 {}
 
-/// A seat plays once it has joined, and may read then; after a read and after an update it plays still. So it may go
-/// from call to call. The call does nothing.
+/// A seat that owns nothing plays once it has joined, and may read then; after a read and after an update it plays
+/// still. So it may go from call to call. The call does nothing.
 pub fn a_seat_plays_on()
     ensures begins { (d : DomainState Maps) (seat : SeatState View) (n : ℕ) → IsAtRest d seat
         → HasRoom seat.view.core → seat.view.core.notes ≡ no_notes
+        → seat.view.core.owned ≡ [] → seat.view.core.weaks ≡ []
         → seat.view.client ≡ first_view n → Plays d seat }
     ensures reads { (d : DomainState Maps) (seat : SeatState View) → Plays d seat
         → CanRead seat }

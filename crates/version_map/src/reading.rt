@@ -3,6 +3,7 @@ ghost use Rattle.std.specs.Prelude.{◌≡◌, IfErr, IfOk};
 ghost use Rattle.version_making.specs.protected_loads.control_word.Moves.{KnowsStill};
 ghost use Rattle.version_making.specs.protected_loads.control_word.Resting.{IsAtRest};
 ghost use Rattle.version_reading.specs.Reading.{AtALook, HasNext, IsMoved, IsOver, Reads, pair_by};
+ghost use Rattle.version_map.specs.Playing.{Plays};
 ghost use Rattle.version_map.specs.Maps.{CanRead, HasValue, value_in};
 
 use crate::map::{Moved, VersionMap};
@@ -15,6 +16,7 @@ impl VersionMap {
     /// call, the last look at the root cell. `Moved` only where another seat was quicker: the root cell showed `seen`
     /// and later `now`, which differ, to events of this call, none of which changed it. Then the seat has what it had
     /// too. No add and no make. At most 6 steps, and 6 for each level.
+    #[tactic(auto, using(crate::proofs::Playing::has_read))]
     pub fn try_next(
         &self,
         domain: &Domain<MapLaw>,
@@ -30,6 +32,7 @@ impl VersionMap {
             IsMoved self.now.cell moved.seen moved.now seat.old seat.new) }
         ensures reads { Reads seat.old.view.core seat.old seat.new }
         ensures knows { KnowsStill seat.old.view.core seat.old seat.new }
+        ensures plays { Plays domain.now seat.old → Plays domain.now seat.new }
         ensures rest { IsAtRest domain.now seat.new }
     {
         let Some(word) = domain.free_note(seat) else {
@@ -47,6 +50,7 @@ impl VersionMap {
 
     /// The value of a key, if it has one, in one try. It is that of the map at a step of this call, the last look at
     /// the root cell. `Moved` as in `try_next`. No add and no make. At most 6 steps, and 6 for each level.
+    #[tactic(auto, using(crate::proofs::Playing::has_read))]
     pub fn try_get(
         &self,
         domain: &Domain<MapLaw>,
@@ -62,6 +66,7 @@ impl VersionMap {
             IsMoved self.now.cell moved.seen moved.now seat.old seat.new) }
         ensures reads { Reads seat.old.view.core seat.old seat.new }
         ensures knows { KnowsStill seat.old.view.core seat.old seat.new }
+        ensures plays { Plays domain.now seat.old → Plays domain.now seat.new }
         ensures rest { IsAtRest domain.now seat.new }
     {
         match self.try_next(domain, seat, key) {

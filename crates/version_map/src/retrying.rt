@@ -3,6 +3,7 @@ ghost use Rattle.std.specs.Prelude.{◌≡◌, IfErr, IfOk, false};
 ghost use Rattle.version_making.specs.Keeping.{IsReadyFor};
 ghost use Rattle.version_reading.specs.Reading.{IsOver};
 ghost use Rattle.version_map.specs.Retrying.{AtLast};
+ghost use Rattle.version_map.specs.Playing.{Plays};
 ghost use Rattle.version_map.specs.Updating.{IsDone, IsRefused};
 
 use crate::map::VersionMap;
@@ -34,6 +35,7 @@ impl VersionMap {
             (IsRefused domain.now why) seat.old seat.new) }
         ensures notes { seat.new.view.core.notes ≡ seat.old.view.core.notes }
         ensures open { seat.new.view.client.cleared ≡ false }
+        ensures plays { Plays domain.now seat.old → Plays domain.now seat.new }
         ensures ready { IsReadyFor domain.now seat.new }
     {
         let backoff = Backoff::new();

@@ -3,6 +3,7 @@ ghost use Rattle.std.specs.Prelude.{◌≡◌, IfErr, IfOk, length};
 ghost use Rattle.version_making.specs.protected_loads.control_word.Moves.{KnowsStill};
 ghost use Rattle.version_making.specs.protected_loads.control_word.Resting.{IsAtRest};
 ghost use Rattle.version_reading.specs.Reading.{AtALook, IsMoved, IsOver, Reads};
+ghost use Rattle.version_map.specs.Playing.{Plays};
 ghost use Rattle.version_map.specs.Maps.{CanRead, HasRange};
 
 use crate::map::{Moved, VersionMap};
@@ -18,6 +19,7 @@ impl VersionMap {
     /// of one version, of the map at a step of this call, the last look at the root cell. `Moved` as in `try_next`,
     /// and then the buffer has whatever was read. No add and no make. It searches anew from the root for each pair: at
     /// most 5 steps, and 1 and 6 for each level for each pair and for one more.
+    #[tactic(auto, using(crate::proofs::Playing::has_read))]
     pub fn try_range(
         &self,
         domain: &Domain<MapLaw>,
@@ -36,6 +38,7 @@ impl VersionMap {
         ensures room { length out.new ≡ length out.old }
         ensures reads { Reads seat.old.view.core seat.old seat.new }
         ensures knows { KnowsStill seat.old.view.core seat.old seat.new }
+        ensures plays { Plays domain.now seat.old → Plays domain.now seat.new }
         ensures rest { IsAtRest domain.now seat.new }
     {
         let Some(word) = domain.free_note(seat) else {
@@ -54,6 +57,7 @@ impl VersionMap {
     }
 
     /// The same, tried again as long as another seat is quicker, so it may wait for other threads.
+    #[tactic(auto, using(crate::proofs::Playing::has_read))]
     pub fn range<R: Wait>(
         &self,
         rt: &R,
@@ -71,6 +75,7 @@ impl VersionMap {
         ensures room { length out.new ≡ length out.old }
         ensures reads { Reads seat.old.view.core seat.old seat.new }
         ensures knows { KnowsStill seat.old.view.core seat.old seat.new }
+        ensures plays { Plays domain.now seat.old → Plays domain.now seat.new }
         ensures rest { IsAtRest domain.now seat.new }
     {
         let backoff = Backoff::new();

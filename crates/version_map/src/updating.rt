@@ -2,6 +2,7 @@
 ghost use Rattle.std.specs.Prelude.{◌≡◌, IfErr, IfOk, false};
 ghost use Rattle.version_making.specs.Keeping.{IsReadyFor};
 ghost use Rattle.version_reading.specs.Reading.{IsOver};
+ghost use Rattle.version_map.specs.Playing.{Plays};
 ghost use Rattle.version_map.specs.Updating.{IsDone, IsUndone, Leaves};
 
 use crate::altering::change_version;
@@ -36,6 +37,7 @@ impl VersionMap {
             seat.old seat.new) }
         ensures leaves { Leaves domain.now self.now.cell seat.old seat.new }
         ensures open { seat.new.view.client.cleared ≡ false }
+        ensures plays { Plays domain.now seat.old → Plays domain.now seat.new }
         ensures ready { IsReadyFor domain.now seat.new }
     {
         match load_low_root(domain, seat, self.cell) {

@@ -2,6 +2,7 @@ use Rattle.std.proofs.Common.{ap, ◌∙◌}
 use Rattle.std.specs.Prelude.{Err}
 use Rattle.version_updates.specs.Roots.{LowTells}
 use Rattle.version_map.proofs.Joined.{load_dones, load_leaves, load_owned, load_spent, load_undones, none_leaves}
+use Rattle.version_map.proofs.Playing.{plays_after_one}
 use Rattle.version_map.proofs.Updates.{again_missed, saw_load}
 use Rattle.version_map.proofs.map.VersionMap.try_update.Goals as goal
 
@@ -78,3 +79,18 @@ returns-in-Err-Moved-clause-leaves c =
 pub returns-in-Err-Moved-clause-open : goal.returns-in-Err-Moved-clause-open
 returns-in-Err-Moved-clause-open c =
     c.in-Err-Moved.ensures.keeps.grows.cleared ∙ c.requires.ready.1
+
+pub returns-in-Ok-clause-plays : goal.returns-in-Ok-clause-plays
+returns-in-Ok-clause-plays c = plays_after_one c.args.domain.now c.args.self.now.cell
+    c.args.seat.now c.change_version.new.seat (returns-in-Ok-clause-leaves c)
+    c.change_version.ensures.«open» c.change_version.ensures.ready
+
+pub returns-in-Err-Spent-clause-plays : goal.returns-in-Err-Spent-clause-plays
+returns-in-Err-Spent-clause-plays c = plays_after_one c.args.domain.now c.args.self.now.cell
+    c.args.seat.now c.load_low_root.new.seat (returns-in-Err-Spent-clause-leaves c)
+    (returns-in-Err-Spent-clause-open c) c.in-Err-Spent.ensures.ready
+
+pub returns-in-Err-Moved-clause-plays : goal.returns-in-Err-Moved-clause-plays
+returns-in-Err-Moved-clause-plays c = plays_after_one c.args.domain.now c.args.self.now.cell
+    c.args.seat.now c.load_low_root.new.seat (returns-in-Err-Moved-clause-leaves c)
+    (returns-in-Err-Moved-clause-open c) c.in-Err-Moved.ensures.ready

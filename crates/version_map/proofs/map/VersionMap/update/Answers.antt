@@ -1,5 +1,6 @@
 use Rattle.std.proofs.Common.{subst}
 use Rattle.version_map.specs.Updating.{IsUndone}
+use Rattle.version_map.proofs.Playing.{plays_after_tries}
 use Rattle.version_map.proofs.Retries.{tried_more}
 use Rattle.version_map.proofs.map.VersionMap.update.Goals as goal
 
@@ -15,3 +16,13 @@ loop-try-preserved g c =
       leaves = c.try_update.ensures.leaves;
     })
     c.try_update.ensures.«open» c.try_update.ensures.ready
+
+pub returns-in-Ok-clause-plays : goal.returns-in-Ok-clause-plays
+returns-in-Ok-clause-plays g c plays = c.try_update.ensures.plays
+    (plays_after_tries c.args.domain.now c.args.self.now.cell c.args.seat.now c.loop-try.seat
+    c.loop-try.invariant plays)
+
+pub returns-in-Err-Refused-clause-plays : goal.returns-in-Err-Refused-clause-plays
+returns-in-Err-Refused-clause-plays g c plays = c.try_update.ensures.plays
+    (plays_after_tries c.args.domain.now c.args.self.now.cell c.args.seat.now c.loop-try.seat
+    c.loop-try.invariant plays)
