@@ -116,12 +116,17 @@ module _ (c : ℕ) (p : Plain) (t : Tree) (at : TreeAt p (root p c) t) (up : Asc
   none_unreached many h = many_none (λ n. IsUnreached p (slot n)) (length p.slots) many
       (λ k un. un.1 (reached (slot k) un.0)) h
 
+pub what_remains : (c : ℕ) (p : Plain) (views : List View) → Lawful p → MapLaw c p views
+    → AllFit IsNode p → Rests c p → (t : Tree) → TreeAt p (root p c) t → Remains c p t
+what_remains c p views lawful law fit rests =
+    remains c p views lawful law (settled c p lawful fit rests)
+
 pub finds_tree : (c : ℕ) (p : Plain) (views : List View) → Lawful p → MapLaw c p views
     → AllFit IsNode p → Rests c p → (t : Tree) → TreeAt p (root p c) t
     → (weight : List ℕ → ℕ) (ranks : List ℕ) (found : Audit) → IsAudit weight ranks p found
     → FindsTree t found
 finds_tree c p views lawful law fit rests t at weight ranks found audit =
-    let left = remains c p views lawful law (settled c p lawful fit rests) t at in
+    let left = what_remains c p views lawful law fit rests t at in
     let up = subst (λ (u : Tree). Ascends (pairs u)) (one_tree p (root p c) law.tree t law.is at)
     law.shaped.0 in record {
       live = audit.live ∙ as_many_live c p t at up left;

@@ -1,31 +1,13 @@
 //! Calls on the map by a seat that plays.
 ghost use Rattle.std.specs.Prelude.{◌≡◌, length};
-ghost use Rattle.version_map.specs.Playing.{Plays};
-ghost use Rattle.version_map.specs.version_reading.Reading.{IsOver};
+ghost use Rattle.map_life.specs.version_map.Playing.{Plays};
+ghost use Rattle.map_life.specs.version_map.version_reading.Reading.{IsOver};
 
-use map_protocol::{MapLaw, NodeKind};
-use slot_store::{Deleter, Domain, MakeError, Seat, reap};
+use map_life::{Change, Domain, MakeError, MapLaw, Seat, UpdateError, VersionMap};
 use std::sync::Wait;
-use version_map::{Change, UpdateError, VersionMap};
 
 /// The map of each domain of these tests.
 const MAP: VersionMap = VersionMap { cell: 0 };
-
-/// The most objects that a seat destroys in one turn.
-const MOST_REAPS: u32 = 256;
-
-/// Destroys nodes of old versions, up to a number of them.
-pub(crate) fn tidy(domain: &Domain<MapLaw>, seat: &mut Seat<MapLaw>)
-    requires { Plays domain.now seat.old }
-    ensures { Plays domain.now seat.new }
-{
-    let deleter: Deleter<NodeKind, _> = Deleter::keep(|_node: &[u64; 16]| 1);
-    for _turn in 0..MOST_REAPS {
-        if reap(domain, seat, &deleter).is_none() {
-            return;
-        }
-    }
-}
 
 /// Changes a key, until no other seat is quicker.
 pub(crate) fn change<R: Wait>(

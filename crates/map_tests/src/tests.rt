@@ -1,7 +1,7 @@
 //! One seat plays turns whose answers were worked out by hand, or that a `BTreeMap` answers.
 ghost use Rattle.std.specs.Prelude.{◌≡◌};
-ghost use Rattle.version_map.specs.Playing.{Plays};
-ghost use Rattle.version_map.specs.version_reading.Reading.{IsOver};
+ghost use Rattle.map_life.specs.version_map.Playing.{Plays};
+ghost use Rattle.map_life.specs.version_map.version_reading.Reading.{IsOver};
 
 use crate::calls::{change, read, read_next, scan, tidy};
 use crate::draws::Draws;

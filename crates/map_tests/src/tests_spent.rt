@@ -1,7 +1,7 @@
 //! Updates by a seat with too few makes or adds, and the clear in the end.
 ghost use Rattle.std.specs.Prelude.{◌≡◌};
-ghost use Rattle.version_map.specs.Playing.{Plays};
-ghost use Rattle.version_map.specs.version_reading.Reading.{IsOver};
+ghost use Rattle.map_life.specs.version_map.Playing.{Plays};
+ghost use Rattle.map_life.specs.version_map.version_reading.Reading.{IsOver};
 
 use crate::calls::{change, scan, try_change};
 use crate::opening::{WIDE, open, take_last};

@@ -1,8 +1,8 @@
 //! Threads that add to the numbers of one map and scan it, and what is left in the end.
 ghost use Rattle.std.specs.Prelude.{◌≡◌, All, IfOk};
-ghost use Rattle.seat_life.specs.Free.{IsFree, IsRoot};
-ghost use Rattle.version_map.specs.Playing.{Plays};
-ghost use Rattle.version_map.specs.version_reading.Reading.{IsOver};
+ghost use Rattle.map_life.specs.seat_life.Free.{IsFree, IsRoot};
+ghost use Rattle.map_life.specs.version_map.Playing.{Plays};
+ghost use Rattle.map_life.specs.version_map.version_reading.Reading.{IsOver};
 
 use crate::calls::{change, read, scan, tidy};
 use crate::opening::{WIDE, open};

@@ -1,6 +1,6 @@
 -- What a look tells a seat that is alone, with the lesson of the law.
 use Rattle.std.proofs.Common.{◌≡◌, ⊎_elim, ℕ, zero, suc, ◌+◌, ◌<◌, ◌≤◌, true, List, [], ◌∷◌, ◌++◌, length, map, drop, refl, ap, sym, ◌∙◌, subst, arith}
-use Rattle.std.specs.Prelude.{IsSome, Some, slice_index_or}
+use Rattle.std.specs.Prelude.{IsSome, Some, slice_index, slice_index_or}
 use Rattle.std.specs.List.{list_all}
 use Rattle.std.proofs.lemmas.Bool.{cases_lt}
 use Rattle.std.proofs.lemmas.List.{get_or_past, length-map}
@@ -24,6 +24,7 @@ use Rattle.domain_audit.specs.core_events.Runs.{Core, after, view_at}
 use Rattle.domain_audit.specs.core_events.Shows.{show_seat, shows}
 use Rattle.domain_audit.specs.core_events.Steps.{HasRoom}
 use Rattle.domain_audit.specs.core_events.Views.{no_view}
+use Rattle.domain_audit.specs.core_events.Words.{cell_at, slot_in}
 use Rattle.domain_audit.specs.core_law.Sound.{Sound}
 use Rattle.domain_audit.specs.domain_rule.Rule.{OthersLeft}
 use Rattle.domain_audit.specs.domain_rule.Views.{IsAlone, own_of}
@@ -37,6 +38,7 @@ use Rattle.domain_audit.specs.control_word.Resting.{IsAtRest}
 use Rattle.domain_audit.specs.Audits.{KnowsLone}
 use Rattle.domain_audit.proofs.Learning.{knows_shown}
 use Rattle.domain_audit.proofs.Below.core_law_Bridge.{shown_past, shown_seat, shown_stage, shown_strong}
+use Rattle.domain_audit.proofs.Below.core_law_Each.{length_each}
 use Rattle.domain_audit.proofs.Below.core_law_Events.{event_shows}
 use Rattle.domain_audit.proofs.Below.core_law_Parts.{sound_good}
 use Rattle.domain_audit.proofs.Below.control_word_Becoming.{one_step, rest_after}
@@ -187,6 +189,9 @@ module _ {P V : Type 0} (fits : List ℕ → Type 0) (law : Plain → List V →
     };
     holds = subst (λ (x : Plain × ℕ × V). HoldsOf law gone x.0 x.1 x.2)
         (λ i. (sym still i, alone.0 i, sym step.told.client i)) step.told.happened.fact.2.1;
+    cells = length_each 0 d.shape.cells
+        (λ i. slot_in (slice_index (known_core new.view).words (cell_at d.shape i)))
+        ∙ sym (ap (λ (z : Shape). z.cells) learn_rest.of_domain.1);
     alone = alone_in fits d new lone_new learn_rest;
     own = own_in fits d new lone_new learn_rest;
     others = others_nothing d.shape (known_core new.view) lone_new.sound lone_new.others;

@@ -1,5 +1,5 @@
 -- What a seat that is alone learns of the client's law, and of the state in which it is alone.
-use Rattle.std.specs.Prelude.{ℕ, ◌≡◌, ◌<◌, true, List, []}
+use Rattle.std.specs.Prelude.{ℕ, ◌≡◌, ◌<◌, true, List, [], length}
 use Rattle.domain_audit.specs.plain_state.declared.slot.SlotId.{SlotId}
 use Rattle.domain_audit.specs.plain_state.declared.slot.Stage.TheVariants.{Live}
 use Rattle.domain_audit.specs.plain_state.References.{strong_refs}
@@ -28,6 +28,7 @@ module _ {V : Type 0} (fits : List ℕ → Type 0) (law : Plain → List V → T
     pub state : Plain
     pub knows : KnowsState fits v state
     pub holds : HoldsOf law gone state 0 v.client
+    pub cells : length state.cells ≡ v.core.shape.cells
     pub alone : is_alone state 0 ≡ true
     pub own : seat_at state 0 ≡ show_seat v.core
     pub others : (n : ℕ) → 0 < n → HasNothing (seat_at state n)

@@ -38,3 +38,6 @@ pub use reading::read_value;
 pub use storing::store_value;
 pub use threads::{Done, in_threads};
 pub use turns::repeat;
+
+// What its callers take with it.
+pub use domain_audit::{Deleter, OpenError, OutOfMemory, Quota, Shape, reap};

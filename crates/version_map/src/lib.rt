@@ -45,3 +45,6 @@ pub use laws::{a_seat_plays_on, updates_leave_the_rest};
 pub use map::{Moved, VersionMap};
 pub use outcome::UpdateError;
 pub use version_changes::Change;
+
+// What its callers take with it.
+pub use version_making::{Domain, MakeError, MapLaw, Seat};
