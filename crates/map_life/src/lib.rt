@@ -34,5 +34,5 @@ pub use opening::{WIDE, open_map};
 pub use tidying::tidy;
 
 // What its callers take with it.
-pub use seat_life::{Opened, Settled, close, leave_all};
+pub use seat_life::{OpenError, Opened, OutOfMemory, Quota, Settled, close, leave_all};
 pub use version_map::{Change, Domain, MakeError, MapLaw, Moved, Seat, UpdateError, VersionMap};

@@ -9,6 +9,17 @@ use std::sync::Wait;
 /// The map of each domain of these tests.
 const MAP: VersionMap = VersionMap { cell: 0 };
 
+/// The most objects that a seat destroys in one turn.
+const MOST_REAPS: u32 = 256;
+
+/// Destroys nodes of old versions, up to a number of them.
+pub(crate) fn tidy(domain: &Domain<MapLaw>, seat: &mut Seat<MapLaw>)
+    requires { Plays domain.now seat.old }
+    ensures { Plays domain.now seat.new }
+{
+    let _count = map_life::tidy(domain, seat, MOST_REAPS);
+}
+
 /// Changes a key, until no other seat is quicker.
 pub(crate) fn change<R: Wait>(
     rt: &R,

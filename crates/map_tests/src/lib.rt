@@ -1,5 +1,5 @@
 //! Tests of an ordered map of versions: reads and updates by one seat, beside a map of the toolchain's, what is refused
-//! and what that leaves, the clear in the end, and threads that write and read.
+//! and what that leaves, keys that come and go in several orders, and threads that write and read.
 //!
 //! It is for its tests alone, and promises nothing: without them it is empty.
 //!
@@ -20,7 +20,7 @@ mod draws;
 #[cfg(test)]
 mod models;
 #[cfg(test)]
-mod opening;
+mod orders;
 #[cfg(test)]
 mod tests;
 #[cfg(test)]

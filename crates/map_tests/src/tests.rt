@@ -6,16 +6,12 @@ ghost use Rattle.map_life.specs.version_map.version_reading.Reading.{IsOver};
 use crate::calls::{change, read, read_next, scan, tidy};
 use crate::draws::Draws;
 use crate::models::{change_model, is_range, next_in};
-use crate::opening::{WIDE, open};
-use map_protocol::MapLaw;
-use seat_life::Opened;
-use slot_store::{Domain, MakeError, Seat};
+use map_life::{Change, Domain, MakeError, MapLaw, Opened, Seat, WIDE, open_map};
 use std::alloc::{AllocFailed, Global};
 use std::collections::BTreeMap;
 use std::process::Abort;
 use std::sync::Wait;
 use std::test::Fail;
-use version_map::Change;
 
 /// What a seat does.
 #[derive(Clone, Copy, Drop)]
@@ -104,7 +100,7 @@ fn turns_answer_as_worked_out(rt: HostRuntime) -> Result<(), Fail> {
         domain,
         mut root,
         others: _others,
-    } = open(rt.alloc(), 1, 64, WIDE)?;
+    } = open_map(rt.alloc(), 1, 64, WIDE, WIDE)?;
     assert_eq!(rt; first_difference(&rt, &domain, &mut root, &ROWS), None);
     Ok(())
 }
@@ -168,7 +164,7 @@ fn random_changes_are_those_of_a_btree_map(rt: HostRuntime) -> Result<(), Fail> 
         domain,
         mut root,
         others: _others,
-    } = open(rt.alloc(), 1, 512, WIDE)?;
+    } = open_map(rt.alloc(), 1, 512, WIDE, WIDE)?;
     let differs = first_random_difference(&rt, rt.alloc(), &domain, &mut root, 4000)?;
     assert_eq!(rt; differs, None);
     Ok(())

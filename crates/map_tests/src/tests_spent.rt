@@ -1,19 +1,16 @@
-//! Updates by a seat with too few makes or adds, and the clear in the end.
-ghost use Rattle.std.specs.Prelude.{◌≡◌};
+//! Updates by a seat with too few makes or adds.
+ghost use Rattle.std.specs.Prelude.{◌≡◌, All, IfSome};
 ghost use Rattle.map_life.specs.version_map.Playing.{Plays};
 ghost use Rattle.map_life.specs.version_map.version_reading.Reading.{IsOver};
 
 use crate::calls::{change, scan, try_change};
-use crate::opening::{WIDE, open, take_last};
-use domain_audit::Quota;
-use map_protocol::MapLaw;
-use seat_life::Opened;
-use slot_store::{Domain, MakeError, Seat};
+use map_life::{
+    Change, Domain, MakeError, MapLaw, Opened, Quota, Seat, UpdateError, WIDE, open_map,
+};
 use std::alloc::Global;
 use std::process::Abort;
 use std::sync::Wait;
 use std::test::Fail;
-use version_map::{Change, UpdateError};
 
 /// The keys of the map before a trial are 1 to this, each with ten times its key.
 const KEYS: u64 = 10;
@@ -99,6 +96,15 @@ fn is_filled<R: Wait>(rt: &R, domain: &Domain<MapLaw>, seat: &mut Seat<MapLaw>) 
     same
 }
 
+/// The last of these seats.
+fn take_last(domain: &Domain<MapLaw>, seats: &mut Vec<Seat<MapLaw>>) -> Option<Seat<MapLaw>>
+    requires { All (Plays domain.now) seats.old.items }
+    ensures seats { All (Plays domain.now) seats.new.items }
+    ensures last { IfSome result (Plays domain.now) }
+{
+    seats.pop()
+}
+
 /// What a try by a seat with these makes and adds answers, and whether the map has the keys then as before.
 fn answer_with<R: Abort + Wait>(
     rt: &R,
@@ -110,7 +116,7 @@ fn answer_with<R: Abort + Wait>(
         domain,
         mut root,
         mut others,
-    } = open(alloc, 2, 64, quota)?;
+    } = open_map(alloc, 2, 64, quota, WIDE)?;
     let Some(mut other) = take_last(&domain, &mut others) else {
         panic!(rt; "there are two seats");
     };

@@ -1,21 +1,17 @@
 //! Threads that add to the numbers of one map and scan it, and what is left in the end.
 ghost use Rattle.std.specs.Prelude.{◌≡◌, All, IfOk};
-ghost use Rattle.map_life.specs.seat_life.Free.{IsFree, IsRoot};
 ghost use Rattle.map_life.specs.version_map.Playing.{Plays};
 ghost use Rattle.map_life.specs.version_map.version_reading.Reading.{IsOver};
 
 use crate::calls::{change, read, scan, tidy};
-use crate::opening::{WIDE, open};
-use domain_audit::OutOfMemory;
-use map_protocol::{MapLaw, NodeKind};
-use seat_life::{Opened, leave_all, settle_and_audit};
-use slot_store::{Deleter, Domain, Seat};
+use map_life::{
+    Change, Domain, MapLaw, Opened, OutOfMemory, Seat, WIDE, leave_all, open_map, settle_map,
+};
 use std::alloc::{AllocError, Global};
 use std::sync::Wait;
 use std::test::Fail;
 use std::thread;
 use std::thread::Threads;
-use version_map::Change;
 
 /// The keys 0 to 4 have the numbers. So each thread adds 80 to each of them.
 const KEYS: u64 = 5;
@@ -84,7 +80,7 @@ fn work_all<R: Threads + Wait + Sync>(
 ) -> Result<Vec<Seat<MapLaw>>, AllocError>
     requires plays { All (Plays domain.now) seats.items }
     requires over { IsOver 0 domain.now }
-    ensures { IfOk result (λ done. All (IsFree domain.now) done.items) }
+    ensures { IfOk result (λ done. All (Plays domain.now) done.items) }
 {
     thread::map_vec(rt, seats, &|seat| work(rt, domain, seat))
 }
@@ -97,7 +93,7 @@ fn numbers<R: Wait>(
 ) -> ([Option<u64>; 5], Option<u64>)
     requires plays { Plays domain.now seat.old × (seat.old.view.core.seat ≡ 0) }
     requires over { IsOver 0 domain.now }
-    ensures { IsRoot domain.now seat.new }
+    ensures { Plays domain.now seat.new × (seat.new.view.core.seat ≡ 0) }
 {
     let mut found = [None; 5];
     for key in 0..5 {
@@ -113,15 +109,15 @@ fn left_over(
     root: &mut Seat<MapLaw>,
     seats: Vec<Seat<MapLaw>>,
 ) -> Result<Option<u64>, OutOfMemory>
-    requires root { IsRoot domain.now root.old }
-    requires seats { All (IsFree domain.now) seats.items }
+    requires root { Plays domain.now root.old × (root.old.view.core.seat ≡ 0) }
+    requires seats { All (Plays domain.now) seats.items }
+    requires over { IsOver 0 domain.now × (domain.now.shape.cells ≡ 1) }
 {
     leave_all(domain, root, seats);
     if !domain.alone(root) {
         return Ok(None);
     }
-    let deleter: Deleter<NodeKind, _> = Deleter::keep(|_node: &[u64; 16]| 1);
-    let settled = settle_and_audit(alloc, domain, root, &deleter)?;
+    let settled = settle_map(alloc, domain, root)?;
     Ok(Some(settled.audit.live))
 }
 
@@ -132,7 +128,7 @@ fn threads_add_and_scan_and_the_tree_is_left(rt: HostRuntime) -> Result<(), Fail
         domain,
         mut root,
         others,
-    } = open(rt.alloc(), 4, 2048, WIDE)?;
+    } = open_map(rt.alloc(), 4, 2048, WIDE, WIDE)?;
     let seats = work_all(&rt, &domain, others)?;
     let found = numbers(&rt, &domain, &mut root);
     assert_eq!(rt; found, ([Some(240); 5], None));

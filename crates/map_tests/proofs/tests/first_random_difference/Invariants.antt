@@ -1,4 +1,4 @@
-use Rattle.version_map.specs.Playing.{Plays}
+use Rattle.map_life.specs.version_map.Playing.{Plays}
 use Rattle.map_tests.proofs.tests.first_random_difference.Given as goal
 
 abbrev pub invariant-loop-turn : goal.invariant-loop-turn

@@ -1,5 +1,5 @@
 use Rattle.std.specs.Prelude.{◌≡◌}
-use Rattle.version_map.specs.Playing.{Plays}
+use Rattle.map_life.specs.version_map.Playing.{Plays}
 use Rattle.map_tests.proofs.tests_threads.numbers.Given as goal
 
 abbrev pub invariant-loop-key : goal.invariant-loop-key

@@ -1,6 +1,6 @@
 use Rattle.std.proofs.lemmas.List.Elements.{All-pop}
-use Rattle.version_map.specs.Playing.{Plays}
-use Rattle.map_tests.proofs.opening.take_last.Goals as goal
+use Rattle.map_life.specs.version_map.Playing.{Plays}
+use Rattle.map_tests.proofs.tests_spent.take_last.Goals as goal
 
 pub returns : goal.returns
 returns c =

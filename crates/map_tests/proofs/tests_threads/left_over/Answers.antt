@@ -1,0 +1,14 @@
+use Rattle.map_life.proofs.Played.{all_bare, all_free, is_free}
+use Rattle.map_tests.proofs.tests_threads.left_over.Goals as goal
+
+pub leave_all-requires-clause-root : goal.leave_all-requires-clause-root
+leave_all-requires-clause-root c =
+    (is_free c.args.domain.now c.args.root.now c.requires.root.0, c.requires.root.1)
+
+pub leave_all-requires-clause-others : goal.leave_all-requires-clause-others
+leave_all-requires-clause-others c = all_free c.args.domain.now c.args.seats.items c.requires.seats
+
+pub settle_map-requires-clause-owns : goal.settle_map-requires-clause-owns
+settle_map-requires-clause-owns c =
+    c.leave_all.ensures.owns (c.requires.root.0.owned, c.requires.root.0.weaks)
+    (all_bare c.args.domain.now c.args.seats.items c.requires.seats)
