@@ -19,9 +19,13 @@ pub use Rattle.hand_queues.specs.double_link_queue as double_link_queue
 pub use Rattle.hand_queues.specs as hand_queues
 pub use Rattle.domain_audit.specs.heap_audit as heap_audit
 pub use Rattle.hand_queues.specs.linked_queue as linked_queue
+pub use Rattle.map_life.specs as map_life
+pub use Rattle.map_life.specs.map_rest.map_law as map_law
+pub use Rattle.map_life.specs.map_rest as map_rest
+pub use Rattle.map_life.specs.map_rest.map_law.map_trees as map_trees
 pub use Rattle.hand_queues.specs.part_calls as part_calls
 pub use Rattle.place_history.specs as place_history
-pub use Rattle.seat_life.specs.payload_reading as payload_reading
+pub use Rattle.map_life.specs.seat_life.payload_reading as payload_reading
 pub use Rattle.domain_audit.specs.plain_audit as plain_audit
 pub use Rattle.domain_audit.specs.plain_protocol as plain_protocol
 pub use Rattle.domain_audit.specs.plain_state as plain_state
@@ -31,9 +35,10 @@ pub use Rattle.hand_queues.specs.queue_law as queue_law
 pub use Rattle.hand_queues.specs.queue_protocol as queue_protocol
 pub use Rattle.weak_intern.specs.record_making as record_making
 pub use Rattle.hand_queues.specs.retiring_stores as retiring_stores
-pub use Rattle.seat_life.specs as seat_life
+pub use Rattle.map_life.specs.seat_life as seat_life
 pub use Rattle.domain_audit.specs.slot_store as slot_store
 pub use Rattle.weak_intern.specs.snapshot_ptr as snapshot_ptr
 pub use Rattle.weak_intern.specs.text_reading as text_reading
 pub use Rattle.weak_intern.specs as weak_intern
+pub use Rattle.map_life.specs.version_map as version_map
 pub use Rattle.hand_queues.specs.weak_part_calls as weak_part_calls

@@ -4,7 +4,7 @@
 //! give up references; slots; strong places and snapshots; weak places and weak snapshots; the audit; a life of a
 //! domain, from its opening to its closing; and the protocols and deeds that a client gives to a domain, with `NoLaw`
 //! and `AnyStep` for one that has no law of its own.
-//! `queues` and `directory` have the two structures, `parts` the calls of one of several laws that share a domain.
+//! `queues`, `directory` and `maps` have the structures, `parts` the calls of one of several laws that share a domain.
 //! Each name is that of the crate which has it, with its contract, and nothing is proved here. The definitions that
 //! their contracts cite are passed on too: `Rattle.cdrc.specs.NAME` are those of the crate NAME.
 //!
@@ -21,6 +21,7 @@
 #![tactic(auto)]
 
 pub mod directory;
+pub mod maps;
 pub mod parts;
 pub mod queues;
 
@@ -57,9 +58,9 @@ pub use weak_intern::{
 pub use domain_audit::{Audit, AuditRoom, audit_by_number, audit_domain};
 
 // A life of a domain: its seats, turns and threads, whole payloads, and its end.
-pub use seat_life::{
-    Done, Opened, Settled, close, in_threads, leave_all, open_seats, read_all, read_value, repeat,
-    settle_and_audit, store_value,
+pub use map_life::{
+    Done, Opened, Settled, close, in_threads, learn_law, leave_all, open_seats, read_all,
+    read_value, repeat, settle_and_audit, store_value,
 };
 
 // Protocols: the laws of clients, and the deeds that tell of them.

@@ -18,21 +18,24 @@
 //!     tidy(&domain, &mut seat, 64);
 //!     seat
 //! })?;
-//! leave_all(&domain, &mut root, seats);
+//! leave_map(&domain, &mut root, seats);
 //! let settled = settle_map(alloc, &domain, &mut root)?;                            // settled.audit.live: how many keys
 //! ```
 #![tactic(auto)]
 
 mod ending;
-mod laws;
+mod leaving;
 mod opening;
 mod tidying;
 
 pub use ending::settle_map;
-pub use laws::seats_that_play_may_leave;
+pub use leaving::leave_map;
 pub use opening::{WIDE, open_map};
 pub use tidying::tidy;
 
 // What its callers take with it.
-pub use seat_life::{OpenError, Opened, OutOfMemory, Quota, Settled, close, leave_all};
+pub use seat_life::{
+    Done, OpenError, Opened, OutOfMemory, Quota, Settled, close, in_threads, learn_law, leave_all,
+    open_seats, read_all, read_value, repeat, settle_and_audit, store_value,
+};
 pub use version_map::{Change, Domain, MakeError, MapLaw, Moved, Seat, UpdateError, VersionMap};

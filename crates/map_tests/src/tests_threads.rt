@@ -5,7 +5,7 @@ ghost use Rattle.map_life.specs.version_map.version_reading.Reading.{IsOver};
 
 use crate::calls::{change, read, scan, tidy};
 use map_life::{
-    Change, Domain, MapLaw, Opened, OutOfMemory, Seat, WIDE, leave_all, open_map, settle_map,
+    Change, Domain, MapLaw, Opened, OutOfMemory, Seat, WIDE, leave_map, open_map, settle_map,
 };
 use std::alloc::{AllocError, Global};
 use std::sync::Wait;
@@ -113,7 +113,7 @@ fn left_over(
     requires seats { All (Plays domain.now) seats.items }
     requires over { IsOver 0 domain.now × (domain.now.shape.cells ≡ 1) }
 {
-    leave_all(domain, root, seats);
+    leave_map(domain, root, seats);
     if !domain.alone(root) {
         return Ok(None);
     }

@@ -1,5 +1,5 @@
 -- A seat that plays may begin each call, and each call leaves it so.
-use Rattle.std.proofs.Common.{◌≡◌, ℕ, ◌+◌, false, List, [], ◌∷◌, refl, ap, sym, ◌∙◌, subst, arith}
+use Rattle.std.proofs.Common.{◌≡◌, ℕ, ◌+◌, false, true, List, [], ◌∷◌, refl, ap, sym, ◌∙◌, subst, arith}
 use Rattle.std.specs.Prelude.{slice_index_or}
 use Rattle.version_making.specs.map_law.declared.view.View.{View}
 use Rattle.version_making.specs.map_law.Views.{first_view}
@@ -36,9 +36,13 @@ no_times (s ∷ ss) none =
     let here = none s in let all = times_cons s s ss in let one = one_same s s refl in
     absurd (omega (arith, here, all, one))
 
+can_of : (s : SeatState View) → s.view.client.here ≡ true → s.view.core.notes ≡ no_notes
+    → CanRead s
+can_of s here none = record { here = here; free = two_free s.view.core none }
+
 module _ {P : Type 0} (d : DomainState P) (a : SeatState View) where
   pub can_read : Plays d a → CanRead a
-  can_read plays = record { here = plays.ready.here; free = two_free a.view.core plays.notes }
+  can_read plays = plays.can
 
   pub begins : (n : ℕ) → IsAtRest d a → HasRoom a.view.core → a.view.core.notes ≡ no_notes
       → a.view.core.owned ≡ [] → a.view.core.weaks ≡ [] → a.view.client ≡ first_view n
@@ -48,6 +52,7 @@ module _ {P : Type 0} (d : DomainState P) (a : SeatState View) where
     notes = notes;
     owned = owned;
     weaks = weaks;
+    can = can_of a (ap (λ (v : View). v.here) client) notes;
     uncleared = ap (λ (v : View). v.cleared) client;
   }
 
@@ -61,6 +66,8 @@ module _ {P : Type 0} (d : DomainState P) (a : SeatState View) where
     notes = ap (λ (v : CoreView). v.notes) reads.core ∙ plays.notes;
     owned = ap (λ (v : CoreView). v.owned) reads.core ∙ plays.owned;
     weaks = ap (λ (v : CoreView). v.weaks) reads.core ∙ plays.weaks;
+    can = can_of b (ap (λ (v : View). v.here) reads.learns.same ∙ plays.ready.here)
+        (ap (λ (v : CoreView). v.notes) reads.core ∙ plays.notes);
     uncleared = ap (λ (v : View). v.cleared) reads.learns.same ∙ plays.uncleared;
   }
 
@@ -76,6 +83,7 @@ module _ {P : Type 0} (d : DomainState P) (a : SeatState View) where
         (λ x. let kept = owns x in
         let none = ap (times x) plays.owned ∙ times_none x in omega arith);
     weaks = ap (λ (v : CoreView). v.weaks) same ∙ plays.weaks;
+    can = can_of b ready.here (ap (λ (v : CoreView). v.notes) same ∙ plays.notes);
     uncleared = uncleared;
   }
 

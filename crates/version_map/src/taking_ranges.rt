@@ -57,7 +57,6 @@ impl VersionMap {
     }
 
     /// The same, tried again as long as another seat is quicker, so it may wait for other threads.
-    #[tactic(auto, using(crate::proofs::Playing::has_read))]
     pub fn range<R: Wait>(
         &self,
         rt: &R,

@@ -17,7 +17,6 @@ impl VersionMap {
     /// The least pair, a key and its value, with at least this key. It tries again as long as another seat is quicker,
     /// so it may wait for other threads. The answer is that of the map at a step of this call. No add and no make. At
     /// most 6 steps, and 6 for each level, for each try.
-    #[tactic(auto, using(crate::proofs::Playing::has_read))]
     pub fn next<R: Wait>(
         &self,
         rt: &R,

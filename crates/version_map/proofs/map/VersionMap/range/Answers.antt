@@ -2,6 +2,7 @@ use Rattle.std.proofs.Common.{ℕ, ◌∙◌, subst}
 use Rattle.std.specs.Prelude.{length}
 use Rattle.version_reading.specs.Reading.{AtALook}
 use Rattle.version_map.specs.Maps.{HasRange}
+use Rattle.version_map.proofs.Playing.{has_read}
 use Rattle.version_map.proofs.Again.{again_look, again_reads, tried_again}
 use Rattle.version_map.proofs.map.VersionMap.range.Goals as goal
 
@@ -19,6 +20,11 @@ pub returns-in-Ok-clause-reads : goal.returns-in-Ok-clause-reads
 returns-in-Ok-clause-reads g c =
     again_reads c.args.domain.now c.args.seat.now c.loop-try.seat c.loop-try.invariant.0
     c.try_range.new.seat c.try_range.ensures.reads c.try_range.ensures.knows
+
+pub returns-in-Ok-clause-plays : goal.returns-in-Ok-clause-plays
+returns-in-Ok-clause-plays g c plays =
+    has_read c.args.domain.now c.args.seat.now c.try_range.new.seat plays
+    (returns-in-Ok-clause-reads g c) c.try_range.ensures.rest
 
 pub loop-try-preserved : goal.loop-try-preserved
 loop-try-preserved g c = (
