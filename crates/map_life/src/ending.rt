@@ -10,10 +10,10 @@ use seat_life::{Deleter, OutOfMemory, Settled, learn_law, settle_and_audit};
 use std::alloc::Global;
 use version_map::{Domain, MapLaw, Seat};
 
-/// Destroys all that seat 0, once it is alone, can destroy, and then audits the domain. What lives are the nodes of the
-/// last version, one for each key of the map, none of them kept by a cycle, and nothing is deferred. `OutOfMemory` comes
-/// only of an allocation failure; what was destroyed is destroyed then. The map stays as it is. It takes as many steps
-/// as `settle_and_audit`, and one.
+/// Destroys all that seat 0, once it is alone, can destroy, and then audits the domain. What lives are the nodes of
+/// the last version, one for each key of the map, none of them kept by a cycle, and nothing is deferred. `OutOfMemory`
+/// comes only of an allocation failure; what was destroyed is destroyed then. The map stays as it is. It takes as many
+/// steps as `settle_and_audit`, and one.
 pub fn settle_map(
     alloc: Global,
     domain: &Domain<MapLaw>,

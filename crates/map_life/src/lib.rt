@@ -1,9 +1,10 @@
 //! A life of a domain with an ordered map of versions, for its user: from opening it to what is left in the end.
 //!
-//! `open_map` opens a domain whose cell 0 is the root of an empty map, and answers seat 0 and the others, each of which
-//! plays (`Plays`): it may begin each call on the map. Every call of `VersionMap` leaves a seat that plays playing, and
-//! so does `tidy`, which destroys nodes of old versions. So a thread's body needs no proof of its own. A seat that plays
-//! owns nothing, and may leave; once all have, seat 0 destroys what is left to destroy, and counts: `settle_map`.
+//! `open_map` opens a domain whose cell 0 is the root of an empty map, and answers seat 0 and the others, each of
+//! which plays (`Plays`): it may begin each call on the map. Every call of `VersionMap` leaves a seat that plays
+//! playing, and so does `tidy`, which destroys nodes of old versions. So all that a thread's loop has to say is that
+//! its seat plays. A seat that plays owns nothing, and may leave: `leave_map`. Once all have, seat 0 destroys what is
+//! left to destroy, and counts: `settle_map`.
 //!
 //! The rule that is kept is the law of `map_law`. In the end what lives are the nodes of the last version, one for each
 //! key, and no node is kept by a cycle.
@@ -19,7 +20,7 @@
 //!     seat
 //! })?;
 //! leave_map(&domain, &mut root, seats);
-//! let settled = settle_map(alloc, &domain, &mut root)?;                            // settled.audit.live: how many keys
+//! let settled = settle_map(alloc, &domain, &mut root)?;                     // settled.audit.live: how many keys
 //! ```
 #![tactic(auto)]
 

@@ -14,9 +14,9 @@ pub const WIDE: Quota = Quota {
     adds: 1 << 40,
 };
 
-/// A domain of so many seats and slots, whose only cell, 0, is the root of an empty map; seat 0 with a quota of its own,
-/// and the other seats in order, each with the same quota. All of them play. Refused as `open_domain` is: `BadShape`
-/// where the seats aren't 1 to 32, the slots not 1 to 2^22, or a quota is above 2^40, and `OutOfMemory`.
+/// A domain of so many seats and slots, whose only cell, 0, is the root of an empty map; seat 0 with a quota of its
+/// own, and the other seats in order, each with the same quota. All of them play. Refused as `open_domain` is:
+/// `BadShape` where the seats aren't 1 to 32, the slots not 1 to 2^22, or a quota is above 2^40, and `OutOfMemory`.
 pub fn open_map(
     alloc: Global,
     seats: u32,
