@@ -1,7 +1,7 @@
 //! The same changes made to a map of the toolchain's.
+use map_life::Change;
 use std::alloc::{AllocFailed, Global};
 use std::collections::BTreeMap;
-use version_map::Change;
 
 /// Changes a key of the map, and answers what it had.
 pub(crate) fn change_model(
